@@ -1,0 +1,89 @@
+-- What a passed test says.
+use Prim.Native.Nat.{ℕ, zero, suc, _<_}
+use mathlib.Core.Bool.{Bool, true, false, not, _&&_, _||_, So, false≢true}
+use mathlib.Core.Path.{_≡_, refl}
+use mathlib.Core.Logic.{_⊎_, inl, inr, ⊎-elim}
+use native.Mathlib.Omega.{arith}
+use native.Mathlib.Decide.{decLt}
+use lib.Dec.{eqb}
+use borrow.Author.Tests.{eq-eqb}
+use Rattle.program.specs.Test.{_⇒_, all, any, test}
+
+pub and-left : (a b : Bool) → So (a && b) → So a
+and-left true b t = refl
+and-left false b t = t
+
+pub and-right : (a b : Bool) → So (a && b) → So b
+and-right true b t = t
+and-right false b t = absurd (false≢true t)
+
+pub and-intro : {a b : Bool} → So a → So b → So (a && b)
+and-intro s t = rw (s, t)
+
+pub or-left : {a : Bool} (b : Bool) → So a → So (a || b)
+or-left b t = rw t
+
+pub or-right : (a : Bool) {b : Bool} → So b → So (a || b)
+or-right true t = refl
+or-right false t = t
+
+pub or-cases : (a b : Bool) → So (a || b) → So a ⊎ So b
+or-cases true b t = inl refl
+or-cases false b t = inr t
+
+pub not-elim : {a : Bool} → So (not a) → So a → ⊥
+not-elim s t = false≢true (rw t at s)
+
+pub not-intro : (a : Bool) → (So a → ⊥) → So (not a)
+not-intro true h = absurd (h refl)
+not-intro false h = refl
+
+pub implies-elim : {a : Bool} (b : Bool) → So (a ⇒ b) → So a → So b
+implies-elim b t s = rw s at t
+
+pub implies-intro : (a : Bool) {b : Bool} → (So a → So b) → So (a ⇒ b)
+implies-intro true f = f refl
+implies-intro false f = refl
+
+pub eqb-same : (n : ℕ) → So (eqb n n)
+eqb-same n = eq-eqb n n refl
+
+-- below `suc n` is `n` or below `n`
+pub below : (n i : ℕ) → i < suc n → (i ≡ n) ⊎ (i < n)
+below n i h = go (decLt i n)
+  where
+    go : Dec (i < n) → (i ≡ n) ⊎ (i < n)
+    go (yes l) = inr l
+    go (no g) = inl (omega arith)
+
+pub all-elim : (n : ℕ) (f : ℕ → Bool) → So (all n f) → (i : ℕ) → i < n → So (f i)
+unfolding all
+all-elim zero f t i h = absurd (omega arith)
+all-elim (suc n) f t i h = ⊎-elim (λ e. rw e (search and-left)) (λ l. all-elim n f (search and-right) i l) (below n i h)
+
+pub all-intro : (n : ℕ) (f : ℕ → Bool) → ((i : ℕ) → i < n → So (f i)) → So (all n f)
+unfolding all
+all-intro zero f h = refl
+all-intro (suc n) f h = and-intro (h n (omega arith)) (all-intro n f (λ i l. h i (omega arith)))
+
+pub any-intro : {n : ℕ} (f : ℕ → Bool) (i : ℕ) → i < n → So (f i) → So (any n f)
+unfolding any
+any-intro {n = zero} f i h t = absurd (omega arith)
+any-intro {n = suc n} f i h t = ⊎-elim (λ e. or-left (any n f) (rw e at t)) (λ l. or-right (f n) (any-intro f i l t)) (below n i h)
+
+pub any-elim : (n : ℕ) (f : ℕ → Bool) → So (any n f) → (i : ℕ) × (i < n) × So (f i)
+unfolding any
+any-elim zero f t = absurd (false≢true t)
+any-elim (suc n) f t =
+    ⊎-elim (λ s. (n, omega arith, s)) (λ s. let (i, l, h) = any-elim n f s in (i, omega arith, h)) (or-cases (f n) (any n f) t)
+
+module _ {P : Type 0} where
+  pub test-elim : (d : Dec P) → So (test d) → P
+  unfolding test
+  test-elim (yes p) t = p
+  test-elim (no n) t = absurd (false≢true t)
+
+  pub test-intro : (d : Dec P) → P → So (test d)
+  unfolding test
+  test-intro (yes p) q = refl
+  test-intro (no n) q = absurd (n q)

@@ -1,0 +1,18 @@
+-- The history of an instance: the paths of a pool that stand at a send or at a receive on it.
+use mathlib.Core.Option.{some}
+use mathlib.Core.Path.{_≡_}
+use Rattle.program.specs.declared.Word.{Word}
+use Rattle.program.specs.Each.{Member}
+use Rattle.program.specs.Program.{Program}
+use Rattle.program.specs.Run.{Path, Instance, State, Pool, sendsOn, receivesOn}
+use Rattle.program.specs.Topology.{Fits}
+
+module _ (p : Program) (pool : Pool) (i : Instance) where
+  unfoldable pub AtSend : Path → Type 0
+  AtSend path = (st : State) × Member (record { path = path; state = st }) pool × (sendsOn p st ≡ some i)
+
+  unfoldable pub AtReceive : Path → Type 0
+  AtReceive path = (st : State) × Member (record { path = path; state = st }) pool × (receivesOn p st ≡ some i)
+
+  unfoldable pub HistoryFits : Word → Type 0
+  HistoryFits word = Fits (λ x y. Unit {0}) word AtSend AtReceive

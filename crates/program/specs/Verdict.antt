@@ -1,0 +1,47 @@
+-- The verdict on a set of places, from which rows are reached from which.
+use Prim.Native.Nat.{ℕ}
+use mathlib.Core.Bool.{Bool, true, not, _&&_, _||_}
+use lib.ListN.{length}
+use lib.Dec.{eqb}
+use Rattle.program.specs.declared.Word.{Word}
+use Rattle.program.specs.declared.Word.the-variants.{OneShot, OneToOne, FanOut, FanIn, Many}
+use Rattle.program.specs.Test.{any}
+use Rattle.program.specs.Maybe.{has}
+use Rattle.program.specs.Program.{Program, forkAt}
+use Rattle.program.specs.Flow.{Table}
+use Rattle.program.specs.Walk.{edge}
+use Rattle.program.specs.Closure.{closed}
+
+-- row s is reached from row r by one or more row steps
+unfoldable pub reach : Program → Table → ℕ → ℕ → Bool
+reach p flow = closed (length p) (edge p flow)
+
+-- what follows takes that relation as it comes
+module _ (p : Program) (reach : ℕ → ℕ → Bool) where
+  -- a walk comes to row r; it comes there by way of row c
+  unfoldable pub reached : ℕ → Bool
+  reached r = eqb r 0 || reach 0 r
+
+  unfoldable pub reachedBy : ℕ → ℕ → Bool
+  reachedBy c r = reached c && (eqb r c || reach c r)
+
+  -- from row r one of the places is reached, or r is one
+  unfoldable pub leads : (ℕ → Bool) → ℕ → Bool
+  leads places r = places r || any (length p) λ s. reach r s && places s
+
+  -- the rows that the shared beginnings of the judged pairs of walks come to
+  module _ (comes : ℕ → Bool) where
+    -- a walk comes to two of the places, one after the other
+    unfoldable pub inARow : (ℕ → Bool) → Bool
+    inARow places = any (length p) λ r. comes r && (places r && any (length p) λ s. reach r s && places s)
+
+    -- two walks that part at a spawn row come to places
+    unfoldable pub rivals : (ℕ → Bool) → Bool
+    rivals places = any (length p) λ q. comes q && has (forkAt p q) λ (t, rest). leads places t && leads places rest
+
+    unfoldable pub verdict : Word → (ℕ → Bool) → (ℕ → Bool) → Bool
+    verdict OneShot sends receives = not (inARow sends) && not (rivals sends)
+    verdict OneToOne sends receives = not (rivals sends) && not (rivals receives)
+    verdict FanOut sends receives = not (rivals sends)
+    verdict FanIn sends receives = not (rivals receives)
+    verdict Many sends receives = true
