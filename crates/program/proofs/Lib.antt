@@ -8,3 +8,4 @@ pub mod WellFormed
 pub mod FlowRule
 pub mod Sound
 pub mod Decides
+pub mod Examples

@@ -1,0 +1,5 @@
+-- The store, and the four calls as definitions on bytes.
+pub mod Layout
+pub mod Answers
+pub mod Judging
+pub mod Calls
