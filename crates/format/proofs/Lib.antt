@@ -1,2 +1,10 @@
 -- Theorems about the definitions of specs/.
+pub mod Stands
+pub mod Number
+pub mod Rows
+pub mod Sets
+pub mod Lines
+pub mod Rising
+pub mod Order
+pub mod Files
 pub mod Examples
