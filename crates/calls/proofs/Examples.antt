@@ -4,7 +4,7 @@ use Prim.Native.String.{String}
 use mathlib.Core.Bool.{Bool, true, false}
 use mathlib.Core.List.{List, [], _∷_, _++_, map}
 use mathlib.Core.Path.{_≡_, refl}
-use lib.ListN.{replicate}
+use lib.ListN.{replicate, set}
 use Rattle.program.specs.Maybe
 use Rattle.program.specs.Test
 use Rattle.program.specs.Each
@@ -73,7 +73,7 @@ variant n new = file (swap n new linesA)
 
 -- what load answers on a store that is not empty, and judge on the store that load leaves
 tried : Text.Bytes → List Answer
-unfolding Calls.load Calls.loaded Calls.counts Calls.refilled Calls.judge Calls.judged Calls.andThen Calls.opened Calls.openedFixed Calls.isEmpty Calls.unsound
+unfolding Calls.load Calls.loaded Calls.counts Calls.refilled Calls.judge Calls.judgeAnswered Calls.andThen Calls.opened Calls.openedFixed Calls.isEmpty Calls.unsound
     Answers.loadAnswer Answers.judgeAnswer Answers.refusalAnswer Refusals.number
     Check.check Check.checkAny Check.checkStructure
     Read.readFile Read.readLines Read.readLine Read.readContent Read.readRow Read.readBind Read.readResult Read.readForm Read.formWords Read.rowWords Read.lineWords Read.claimWords
@@ -119,12 +119,39 @@ marked : map tried
 unfolding tried variant
 marked = refl
 
+-- "Parent sends, then spawns a child that sends: fan-out yes, one-shot no": accepted, and 11 at the claim's line
+linesInTurn : String → List String
+linesInTurn claim =
+    "[dispenser 1]" ∷
+    "[row 0 [bind 0 [unit] 1]]" ∷
+    "[row 1 [bind 1 [chan] 2]]" ∷
+    "[row 2 [bind 2 [send 1 0] 3]]" ∷
+    "[row 3 [bind 3 [sync 2] 4]]" ∷
+    "[row 4 [bind 4 [spawn 5] 7]]" ∷
+    "[row 5 [bind 5 [sync 2] 6]]" ∷
+    "[row 6 [result 5]]" ∷
+    "[row 7 [result 4]]" ∷
+    "[flow 0 [u]]" ∷
+    "[flow 1 [1]]" ∷
+    "[flow 2 [2]]" ∷
+    "[flow 3 [u]]" ∷
+    "[flow 4 [u]]" ∷
+    "[flow 5 [u]]" ∷
+    "[comm 1 [u]]" ∷
+    claim ∷
+    []
+
+inTurn : map (λ c. tried (file (linesInTurn c))) ("[claim 1 fan-out]" ∷ "[claim 1 one-shot]" ∷ [])
+    ≡ ((answered (8 ∷ 6 ∷ 1 ∷ 1 ∷ []) ∷ answered (1 ∷ []) ∷ []) ∷ (answered (8 ∷ 6 ∷ 1 ∷ 1 ∷ []) ∷ turnedBack 11 17 ∷ []) ∷ [])
+unfolding tried variant linesInTurn
+inTurn = refl
+
 -- what a verdict says, as document 01 numbers it: number and line, or the words as 0 and 1
 words : VerdictAnswer → Answer
 unfolding Answers.verdictAnswer Answers.statusAnswer Answers.yesOrNo Answers.refusalAnswer Refusals.number
 words v = Answers.verdictAnswer v
 
--- on the store that load leaves of A: the verdict on row 1; 24 on row 0; writing into as many bytes as A has, and one more; 23 into one less
+-- on the store that load leaves of A: the verdict on row 1; 24 on row 0; writing into as many bytes as A has, and one more; 23 into one less; 20 on a store of one byte; 22 with a kind that no row has
 record OnA : Type 0 where
   channel1 : Answer
   row0 : Answer
@@ -132,9 +159,11 @@ record OnA : Type 0 where
   bytes : Text.Bytes
   short : Answer
   unaltered : Text.Bytes
+  cut : Answer
+  damaged : Answer
 
 onA : ℕ → OnA
-unfolding tried variant words Calls.verdict Calls.verdictOf Calls.given Judging.verdictDocument Calls.write Calls.written Answers.writeAnswer
+unfolding tried variant words Calls.verdict Calls.verdictOf Calls.verdictGiven Judging.verdictDocument Calls.write Calls.written Answers.writeAnswer
     Print.documentText Print.lineText Print.rowText Print.formText Print.formWord Print.setText Print.membersText Print.memberText Print.wordText Text.digits Text.place Text.argument Text.arguments
 onA size =
     let store = Calls.load (file linesA) (replicate Layout.storeSize 7) .bytes in
@@ -147,6 +176,8 @@ onA size =
       bytes = w .bytes;
       short = Answers.writeAnswer (s .answer);
       unaltered = s .bytes;
+      cut = Answers.judgeAnswer (Calls.judge (7 ∷ []));
+      damaged = Answers.judgeAnswer (Calls.judge (set store 0 16));
     }
 
 -- A has 370 bytes
@@ -157,6 +188,8 @@ calls : onA 370 ≡ record {
   bytes = file linesA ++ (9 ∷ []);
   short = turnedBack 23 0;
   unaltered = replicate 369 7;
+  cut = turnedBack 20 0;
+  damaged = turnedBack 22 0;
 }
 unfolding onA
 calls = refl

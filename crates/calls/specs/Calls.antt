@@ -74,9 +74,9 @@ load file store =
       | false ↦ loaded store (check file)
     ]
 
-unfoldable pub judged : Result ℕ → JudgeAnswer
-judged (refused r) = JudgeAnswer.Refused r
-judged (accepted n) = JudgeAnswer.Accepted n
+unfoldable pub judgeAnswered : Result ℕ → JudgeAnswer
+judgeAnswered (refused r) = JudgeAnswer.Refused r
+judgeAnswered (accepted n) = JudgeAnswer.Accepted n
 
 -- go on with the document, or pass the refusal on
 unfoldable pub andThen : {A B : Type 0} → Result A → (A → Result B) → Result B
@@ -84,18 +84,18 @@ andThen (refused r) f = refused r
 andThen (accepted a) f = f a
 
 unfoldable pub judge : Bytes → JudgeAnswer
-judge store = judged (andThen (opened store) judgeDocument)
+judge store = judgeAnswered (andThen (opened store) judgeDocument)
 
 -- 24: "verdict on a number that isn't a chan row"
 unfoldable pub verdictOf : ℕ → Document → Result (List Bool)
 verdictOf c d = elim (chanRow (d .rows) c) [ true ↦ verdictDocument d c | false ↦ refused (refusal NotAChannel 0) ]
 
-unfoldable pub given : Result (List Bool) → VerdictAnswer
-given (refused r) = record { status = VerdictStatus.Refused r; words = false ∷ false ∷ false ∷ false ∷ [] }
-given (accepted bs) = record { status = VerdictStatus.Given; words = bs }
+unfoldable pub verdictGiven : Result (List Bool) → VerdictAnswer
+verdictGiven (refused r) = record { status = VerdictStatus.Refused r; words = false ∷ false ∷ false ∷ false ∷ [] }
+verdictGiven (accepted bs) = record { status = VerdictStatus.Given; words = bs }
 
 unfoldable pub verdict : Bytes → ℕ → VerdictAnswer
-verdict store c = given (andThen (opened store) (verdictOf c))
+verdict store c = verdictGiven (andThen (opened store) (verdictOf c))
 
 -- 23: "the text doesn't fit the output"; "the rest of the output unaltered"
 unfoldable pub written : Bytes → Result Bytes → Outcome WriteAnswer

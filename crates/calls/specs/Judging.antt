@@ -8,7 +8,7 @@ use Rattle.program.specs.declared.Word.{Word}
 use Rattle.program.specs.declared.Word.the-variants.{OneShot, OneToOne, FanOut, FanIn}
 use Rattle.program.specs.Test.{least}
 use Rattle.program.specs.Flow.{Table, keepsAt}
-use Rattle.program.specs.Walk.{sendPlace, receivePlace}
+use Rattle.program.specs.Walk.{CanShare, Holds, sendPlace, receivePlace}
 use Rattle.program.specs.Verdict.{reach, reached, verdict}
 use Rattle.format.specs.declared.Reason.the-variants.{FlowRuleFails, ClaimFails}
 use Rattle.format.specs.Refusals.{refusal, Result, refused, accepted}
@@ -30,6 +30,10 @@ module _ (d : Document) where
   -- what a word says of channel row c, told by which rows are reached from which
   unfoldable pub wordHolds : (ℕ → ℕ → Bool) → ℕ → Word → Bool
   wordHolds reach c word = verdict (d .rows) reach (reached (d .rows) reach) word (sendPlace (d .rows) flowTable c) (receivePlace (d .rows) flowTable c)
+
+  -- the same over all pairs of walks that can share a run. That `wordHolds` decides it is a theorem (proofs/Judging)
+  unfoldable pub WordHolds : ℕ → Word → Type 0
+  WordHolds c word = Holds (d .rows) flowTable (CanShare (d .rows)) word (sendPlace (d .rows) flowTable c) (receivePlace (d .rows) flowTable c)
 
   -- which rows are reached from which by one or more row steps
   unfoldable pub reaches : ℕ → ℕ → Bool

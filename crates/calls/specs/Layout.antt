@@ -1,9 +1,9 @@
 -- The store: its fixed size and layout. Document 01 leaves both open; what it asks is that a file's document can be read back.
 --   rows    8 bytes for each row number: kind, name, rest and five arguments; kind 0 is no row
 --   flows   for each name, a byte of 0 or 1 for each member: unit, then the rows
---   comms   the same for each channel row
---   claims  for each channel row a byte: 0 for no claim, else the word's code
--- Every byte that a document does not use is 0.
+--   comms   the same for each row number, of which chan rows have a set
+--   claims  for each row number a byte: 0 for no claim, else the word's code
+-- Every byte that a document does not use is 0. `decode` reads any bytes; that they are a document's own is tested by encoding it again (`Calls.unsound`).
 use Prim.Native.Nat.{ℕ, zero, suc, _+_, _*_, _-_}
 use mathlib.Core.Bool.{Bool, true, false, _&&_}
 use mathlib.Core.List.{List, [], _∷_, _++_}

@@ -4,6 +4,7 @@ use Prim.Native.String.{String}
 use mathlib.Core.Bool.{Bool, true, false, not}
 use mathlib.Core.List.{List, [], _∷_, _++_, map}
 use mathlib.Core.Path.{_≡_, refl}
+use lib.ListN.{replicate}
 use Rattle.program.specs.Maybe
 use Rattle.program.specs.Test
 use Rattle.program.specs.Each
@@ -37,6 +38,11 @@ unfolding answer Check.check Check.checkAny Check.checkStructure
     Test.least Each.every Each.collect Each.elem Maybe._>>=_ Maybe._<|>_ Maybe.has
     Program.rowAt Program.bindAt Program.bindOf Program.formAt Program.chanAt Program.pointers Program.binders Program.valueRow Program.chanRow
 checked text = answer (Check.check (Text.ascii text))
+
+-- 1: one byte more than the limit; at the limit the file is read
+tooLong : answer (Check.check (replicate 32769 10)) ∷ answer (Check.check (replicate 32768 10)) ∷ [] ≡ (1 ∷ 0 ∷ []) ∷ (2 ∷ 1 ∷ []) ∷ []
+unfolding checked
+tooLong = refl
 
 -- 2: the first line, the last byte, the words, the numbers
 firstLine : map checked ("" ∷ "\n" ∷ "[dispenser 1]" ∷ "[dispenser 2]\n" ∷ "[dispenser 1]\n[dispenser 1]\n" ∷ "[dispenser 1]\n\n" ∷ [])

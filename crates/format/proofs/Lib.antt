@@ -7,4 +7,6 @@ pub mod Lines
 pub mod Rising
 pub mod Order
 pub mod Files
+pub mod Structure
+pub mod First
 pub mod Examples

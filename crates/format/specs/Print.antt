@@ -59,12 +59,12 @@ unfoldable pub memberText : ℕ → Bytes
 memberText zero = ascii "u"
 memberText (suc r) = digits r
 
--- members, each with a space before it
+-- members, each with a space before it, and the closing bracket
 unfoldable pub membersText : List ℕ → Bytes
 membersText [] = ascii "]"
 membersText (m ∷ ms) = ascii " " ++ (memberText m ++ membersText ms)
 
--- "A set holds `u` first if at all, then rising row numbers, one space between; it is never written empty"
+-- "A set holds `u` first if at all, then rising row numbers, one space between; it is never written empty" (`[]` is the text of no file)
 unfoldable pub setText : List ℕ → Bytes
 setText [] = ascii "[]"
 setText (m ∷ ms) = ascii "[" ++ (memberText m ++ membersText ms)

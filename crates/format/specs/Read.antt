@@ -206,7 +206,7 @@ readLines (suc k) s at line d =
       ]
     ]
 
--- a file of at most `byteLimit` bytes: the first line, then the others. Each line takes a byte, so as many lines as bytes suffice
+-- a file of any length: the first line, then the others. Each line takes a byte, so as many rounds as bytes suffice
 unfoldable pub readFile : Bytes → Result Document
 readFile s =
     elim (expect header s 0) [

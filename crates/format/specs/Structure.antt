@@ -20,7 +20,7 @@ use Rattle.format.specs.Scope.{scopeFault}
 abbrev pub rowLine : ℕ → ℕ
 rowLine r = r + 2
 
--- 6: "A row pointed at that is absent, not greater, or pointed at earlier": of the rows that row r of n points at
+-- 6: "A row pointed at that is absent, not greater, or pointed at earlier": of the rows that row r points at, where there are n rows
 unfoldable pub wrongPointers : ℕ → ℕ → List ℕ → List ℕ → Bool
 wrongPointers n r earlier [] = false
 wrongPointers n r earlier (t ∷ ts) = not (ltb r t && ltb t n) || elem t earlier || wrongPointers n r (t ∷ earlier) ts

@@ -22,11 +22,11 @@ ascii (String._∷_ c s) = code c ∷ ascii s
 abbrev pub byteAt : Bytes → ℕ → ℕ
 byteAt s at = getD s at 0
 
--- "A number has one to three decimal digits with no leading zero": the digit of n at the place p, a power of ten, where n has one
+-- decimal digits with no leading zero: the digit of n at the place p, a power of ten, where n has one
 unfoldable pub place : ℕ → ℕ → Bytes
 place n p = pick (ltb n p) [] ((48 + n / p % 10) ∷ [])
 
--- the decimal digits of a number below 100,000
+-- the decimal digits of a number below 100,000: the numbers of a file have at most three, the lines and lengths that are printed at most five
 unfoldable pub digits : ℕ → Bytes
 digits n = place n 10000 ++ (place n 1000 ++ (place n 100 ++ (place n 10 ++ ((48 + n % 10) ∷ []))))
 
@@ -37,7 +37,7 @@ digitOf b = pick (ltb b 48) 10 (pick (ltb 57 b) 10 (b - 48))
 unfoldable pub digitAt : Bytes → ℕ → ℕ
 digitAt s at = digitOf (byteAt s at)
 
--- the number of one to three digits a, b and c at a position, and the position past it; 10 is no digit, and 0 stands alone
+-- "A number has one to three decimal digits with no leading zero (0 itself is `0`)": of the digits a, b and c at a position, and the position past it; 10 is no digit
 abbrev pub numberOf : ℕ → ℕ → ℕ → ℕ → Option (ℕ × ℕ)
 numberOf a b c at =
     pick (ltb 9 a) none

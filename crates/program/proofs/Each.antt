@@ -12,8 +12,8 @@ pub data Each {A : Type 0} (P : A → Type 0) : List A → Type 0 where
 
 module _ {A : Type 0} where
   -- R holds of every two elements, of an element and itself too
-  abbrev pub EveryTwo : (A → A → Type 0) → List A → Type 0
-  EveryTwo R xs = Each (λ a. Each (R a) xs) xs
+  abbrev pub EachTwo : (A → A → Type 0) → List A → Type 0
+  EachTwo R xs = Each (λ a. Each (R a) xs) xs
 
   pub every-elim : (f : A → Bool) (xs : List A) → So (every f xs) → Each (λ a. So (f a)) xs
   unfolding every
@@ -58,7 +58,7 @@ each-swap ys (p & h) = each-imp (λ b k. k .0 & k .1) (each-both p (each-swap ys
 
 -- every two of two lists put together, where R goes both ways
 pub every-two-append : {A : Type 0} {R : A → A → Type 0} {xs ys : List A} → ((a b : A) → R a b → R b a)
-    → EveryTwo R xs → Each (λ a. Each (R a) ys) xs → EveryTwo R ys → EveryTwo R (xs ++ ys)
+    → EachTwo R xs → Each (λ a. Each (R a) ys) xs → EachTwo R ys → EachTwo R (xs ++ ys)
 every-two-append {ys = ys} flip h k l =
     each-append (each-imp (λ a r. each-append (r .0) (r .1)) (each-both h k))
     (each-imp (λ b r. each-append (each-imp (λ a q. flip a b q) (r .0)) (r .1)) (each-both (each-swap ys k) l))

@@ -7,11 +7,12 @@ use mathlib.Core.Logic.{_↔_, Iff·rfl}
 use lib.ListN.{length}
 use Rattle.program.specs.declared.Form.{Form}
 use Rattle.program.specs.declared.Form.the-variants.{Chan, Send, Recv, Pair, Left, Right, Fun, Spawn, Sync, First, Second, Case, Apply}
-use Rattle.program.specs.Flow.{u, row, Set, Table, forEach, forEachChan, lies, sendRule, recvRule, keepsForm}
-use Rattle.program.specs.FlowRule.{ForEach, ForEachChan, Lies, FlowRule}
+use Rattle.program.specs.Flow.{u, row, Set, Table, forEach, forEachChan, lies, sendRule, recvRule, keepsForm, keepsAt, keepsAll}
+use Rattle.program.specs.FlowRule.{ForEach, ForEachChan, Lies, FlowRule, KeepsAll}
 use Rattle.program.specs.Maybe.{when}
-use Rattle.program.specs.Program.{Program, chanAt, sendAt, recvAt, pairAt, leftAt, rightAt, funAt, resultName}
+use Rattle.program.specs.Program.{Program, bindAt, chanAt, sendAt, recvAt, pairAt, leftAt, rightAt, funAt, resultName}
 use Rattle.program.specs.Test.{_⇒_}
+use Rattle.program.proofs.Sound.Shape.{bind-bound}
 use Rattle.program.proofs.Maybe.{when-intro, found-at, found-when}
 use Rattle.program.proofs.Test.{and-left, and-right, and-intro, all-elim, all-intro, implies-elim, implies-intro}
 
@@ -47,3 +48,11 @@ module _ (p : Program) (flow comm : Table) (r n : ℕ) where
   rule-iff (Second a) = simp (each-iff p, when-iff, lies-iff p) Iff·rfl
   rule-iff (Case s x t y w) = simp (each-iff p, when-iff, and-eq-true-iff, lies-iff p) Iff·rfl
   rule-iff (Apply f a) = simp (each-iff p, when-iff, and-eq-true-iff, lies-iff p) Iff·rfl
+
+-- the test of every row, and the rule at every row
+pub keeps-iff : (p : Program) (flow comm : Table) → So (keepsAll p flow comm) ↔ KeepsAll p flow comm
+unfolding keepsAll keepsAt KeepsAll
+keeps-iff p flow comm = (
+  λ t r b e. rule-iff p flow comm r (b .name) (b .form) .0 (when-iff (bindAt p r) _ .0 (all-elim (length p) (keepsAt p flow comm) t r (bind-bound p r b e)) b e),
+  λ h. all-intro (length p) (keepsAt p flow comm) (λ r l. when-intro _ (bindAt p r) (λ b e. rule-iff p flow comm r (b .name) (b .form) .1 (h r b e))),
+)

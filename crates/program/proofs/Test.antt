@@ -1,13 +1,14 @@
 -- What a passed test says.
 use Prim.Native.Nat.{ℕ, zero, suc, _<_}
 use mathlib.Core.Bool.{Bool, true, false, not, _&&_, _||_, So, false≢true}
-use mathlib.Core.Path.{_≡_, refl}
+use mathlib.Core.Path.{_≡_, refl, sym, _∙_}
 use mathlib.Core.Logic.{_⊎_, inl, inr, ⊎-elim}
 use native.Mathlib.Omega.{arith}
 use native.Mathlib.Decide.{decLt}
 use lib.Dec.{eqb}
 use borrow.Author.Tests.{eq-eqb}
-use Rattle.program.specs.Test.{_⇒_, all, any, test}
+use mathlib.Core.Option.{Option, none, some}
+use Rattle.program.specs.Test.{pick, _⇒_, all, any, least, test}
 
 pub and-left : (a b : Bool) → So (a && b) → So a
 and-left true b t = refl
@@ -87,3 +88,38 @@ module _ {P : Type 0} where
   unfolding test
   test-intro (yes p) q = refl
   test-intro (no n) q = absurd (n q)
+
+-- what the smallest number that passes says, and what it says that there is none
+pub data Least (n : ℕ) (f : ℕ → Bool) : Option ℕ → Type 0 where
+  none-passes : ((i : ℕ) → i < n → f i ≡ false) → Least n f none
+  smallest : {i : ℕ} → i < n → So (f i) → ((j : ℕ) → j < i → f j ≡ false) → Least n f (some i)
+
+pub least-is : (n : ℕ) (f : ℕ → Bool) → Least n f (least n f)
+unfolding least
+least-is zero f = none-passes (λ i l. absurd (omega arith))
+least-is (suc n) f = go (least n f) (f n) refl (least-is n f)
+  where
+    go : (o : Option ℕ) (b : Bool) → f n ≡ b → Least n f o → Least (suc n) f (elim o as (λ o. Option ℕ) [ some i ↦ some i | none ↦ pick b (some n) none ])
+    go none true q (none-passes h) = smallest {i = n} (omega arith) q h
+    go none false q (none-passes h) = none-passes (λ i l. ⊎-elim (λ e. rw e q) (h i) (below n i l))
+    go (some i) b q (smallest l t h) = smallest {i = i} (omega arith) t h
+
+pub least-none : (n : ℕ) (f : ℕ → Bool) → least n f ≡ none → (i : ℕ) → i < n → f i ≡ false
+least-none n f e = go (rw e at (least-is n f))
+  where
+    go : Least n f none → (i : ℕ) → i < n → f i ≡ false
+    go (none-passes h) = h
+
+pub least-some : (n : ℕ) (f : ℕ → Bool) (i : ℕ) → least n f ≡ some i → (i < n) × So (f i) × ((j : ℕ) → j < i → f j ≡ false)
+least-some n f i e = go (rw e at (least-is n f))
+  where
+    go : Least n f (some i) → (i < n) × So (f i) × ((j : ℕ) → j < i → f j ≡ false)
+    go (smallest l t h) = (l, t, h)
+
+-- no number passes: there is no smallest
+pub none-least : (n : ℕ) (f : ℕ → Bool) → ((i : ℕ) → i < n → f i ≡ false) → least n f ≡ none
+none-least n f h = go (least n f) (least-is n f)
+  where
+    go : (o : Option ℕ) → Least n f o → o ≡ none
+    go none (none-passes k) = refl
+    go (some i) (smallest l t k) = absurd (false≢true (sym (h i l) ∙ t))

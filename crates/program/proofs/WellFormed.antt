@@ -12,10 +12,10 @@ unfoldable pub distinct : List ℕ → Bool
 distinct [] = true
 distinct (x ∷ xs) = not (elem x xs) && distinct xs
 
-unfoldable pub rising : Program → Bool
-rising p = all (length p) λ r. every (λ t. ltb r t && ltb t (length p)) (pointers (rowAt p r))
+unfoldable pub pointersRise : Program → Bool
+pointersRise p = all (length p) λ r. every (λ t. ltb r t && ltb t (length p)) (pointers (rowAt p r))
 
 pub record WellFormed (p : Program) : Type 0 where
-  pub rises : So (rising p)
+  pub rises : So (pointersRise p)
   pub pointedOnce : So (distinct (collect pointers p))
   pub boundOnce : So (distinct (collect binders p))

@@ -1,4 +1,4 @@
--- The tables, and the flow rule of a row.
+-- "Flow rules": the sets V(n) and C(c), and the rule of a row as a test. `FlowRule` has the same rules as propositions.
 use Prim.Native.Nat.{ℕ}
 use mathlib.Core.Bool.{Bool, _&&_}
 use lib.ListN.{length}

@@ -1,4 +1,4 @@
--- The history of an instance: the paths of a pool that stand at a send or at a receive on it.
+-- "Its history is the pool's paths so standing, those at sends and those at receives", and when it fits a word.
 use mathlib.Core.Option.{some}
 use mathlib.Core.Path.{_≡_}
 use Rattle.program.specs.declared.Word.{Word}

@@ -169,23 +169,6 @@ abbrev pub bindersOf : Form → List ℕ
 bindersOf =
     byKind [] [] (λ c m. []) (λ c. []) (λ a b. []) (λ a. []) (λ a. []) (λ f x t. f ∷ x ∷ []) (λ t. []) (λ e. []) (λ s l t r u. l ∷ r ∷ []) (λ f a. [])
 
--- "every other name is a use"
-abbrev pub usesOf : Form → List ℕ
-usesOf Form.Unit = []
-usesOf Chan = []
-usesOf (Send c m) = c ∷ m ∷ []
-usesOf (Recv c) = c ∷ []
-usesOf (Pair a b) = a ∷ b ∷ []
-usesOf (Left a) = a ∷ []
-usesOf (Right a) = a ∷ []
-usesOf (Fun f x t) = []
-usesOf (Spawn t) = []
-usesOf (Sync e) = e ∷ []
-usesOf (First a) = a ∷ []
-usesOf (Second a) = a ∷ []
-usesOf (Case s l t r u) = s ∷ []
-usesOf (Apply f a) = f ∷ a ∷ []
-
 -- the rows that a row points at: those of its form, then the rest
 unfoldable pub pointers : Row → List ℕ
 pointers (Row.Result n) = []

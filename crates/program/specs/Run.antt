@@ -1,4 +1,4 @@
--- The run: paths, values, states, the pool, and its steps.
+-- "Run rules": labels, paths, values and environments, states, the pool, and its steps.
 use Prim.Native.Nat.{ℕ}
 use native.Mathlib.Decide.{ℕ-discrete}
 use mathlib.Core.Bool.{Bool, true, false, not}
@@ -15,7 +15,7 @@ use Rattle.program.specs.Each.{every}
 use Rattle.program.specs.Snoc.{Snoc, ε, _▷_, Snoc-discrete, continues?}
 use Rattle.program.specs.Program.{Program, rowAt, bindAt, syncAt, sendAt, recvAt, pairAt, leftAt, rightAt, funAt}
 
--- each label has the name of its bind; a return has the name that waited
+-- "A label (next, spawn, call, return, each with the N of its bind; a return with the N that waited)"
 pub data Label : Type 0 where
   next spawn call return : ℕ → Label
   deriving Discrete as Label-discrete
@@ -26,7 +26,7 @@ sameLabel = Label-discrete ℕ-discrete
 abbrev pub Path : Type 0
 Path = Snoc Label
 
--- a channel made by a run: the path that made it, and the name of its chan row
+-- "an instance, the pair of the path that steps and N"
 pub data Instance : Type 0 where
   made : Path → ℕ → Instance
   deriving Discrete as Instance-discrete
@@ -37,7 +37,7 @@ sameInstance = Instance-discrete (Snoc-discrete sameLabel) ℕ-discrete
 abbrev pub chanName : Instance → ℕ
 chanName (made path n) = n
 
--- a closure is a value row with the environment that its names are read in
+-- a value: unit, an instance, or a value row with the environment in which its names are read ("closure")
 mutual
   pub data Value : Type 0 where
     unit : Value
@@ -142,7 +142,7 @@ module _ (p : Program) (path : Path) (st : State) where
   unfoldable pub moves : Option (List Move)
   moves = elim (rowAt p (st .row)) [ Row.Result n ↦ resultMoves n (st .returns) | Row.Bind b ↦ formMoves b (b .form) ]
 
--- the event that a thread at a sync row waits for, and the instance that it is on
+-- "A path stands at a send (receive) on an instance if its state is a sync row whose E has a send (recv) value with that instance for its C"
 module _ (p : Program) (st : State) where
   unfoldable pub event : Option (ℕ × Env)
   event = syncAt p (st .row) >>= closureAt (st .env)
@@ -172,7 +172,7 @@ pub record Thread : Type 0 where
   pub path : Path
   pub state : State
 
--- every path so far, with its state
+-- "A pool holds every path so far with its state"
 abbrev pub Pool : Type 0
 Pool = List Thread
 
@@ -180,7 +180,7 @@ unfoldable pub stateOf : Pool → Path → Option State
 stateOf [] path = none
 stateOf (t ∷ ts) path = elim (Snoc-discrete sameLabel (t .path) path) [ yes e ↦ some (t .state) | no n ↦ stateOf ts path ]
 
--- no path of the pool continues this one
+-- "leaf paths .., those that no other path of the pool continues"
 unfoldable pub leaf : Pool → Path → Bool
 leaf pool path = every (λ t. not (test (continues? sameLabel path (t .path)))) pool
 
@@ -198,7 +198,7 @@ pub data Step : Type 0 where
   meet : Path → Path → Step
 
 module _ (p : Program) where
-  -- what a step adds to the pool; nothing where it isn't allowed
+  -- what a step adds to the pool: "a step names one path, or a sending and a receiving one"; nothing where it isn't allowed
   unfoldable pub added : Pool → Step → Option (List Thread)
   added pool (own path) = do
     st ← leafState pool path
@@ -214,6 +214,7 @@ module _ (p : Program) where
     _ ← provided (sameInstance i j)
     some (lengthen sender (proceed s b unit) ∷ lengthen receiver (proceed r d v) ∷ [])
 
+  -- "A step that no rule here fits is not allowed and leaves the pool as it was"
   unfoldable pub step : Pool → Step → Pool
   step pool s = elim (added pool s) [ none ↦ pool | some ts ↦ ts ++ pool ]
 
@@ -221,8 +222,10 @@ module _ (p : Program) where
   after pool [] = pool
   after pool (s ∷ ss) = after (step pool s) ss
 
+  -- "The start is the empty path at row 0, nothing bound, no return waiting"
   unfoldable pub startPool : Pool
   startPool = record { path = ε; state = record { row = 0; env = empty; returns = [] } } ∷ []
 
+  -- the pool that a whole list of steps leaves
   unfoldable pub run : List Step → Pool
   run ss = after startPool ss

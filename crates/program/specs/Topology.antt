@@ -4,7 +4,7 @@ use Rattle.program.specs.declared.Word.{Word}
 use Rattle.program.specs.declared.Word.the-variants.{OneShot, OneToOne, FanOut, FanIn, Many}
 use Rattle.program.specs.Snoc.{Snoc, Ordered}
 
--- the pairs that are judged, and the ends that count as sends and as receives
+-- `judged` tells the pairs that count: of walks those that can share a run, of paths all; `sends` and `receives` the ends that count
 module _ {A : Type 0} (judged : Snoc A → Snoc A → Type 0) where
   -- R holds of every two that are judged and end so
   abbrev pub EveryTwo : (Snoc A → Type 0) → (Snoc A → Snoc A → Type 0) → Type 0

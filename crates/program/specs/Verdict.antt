@@ -1,4 +1,4 @@
--- The verdict on a set of places, from which rows are reached from which.
+-- "Walks and claims", as tests: the verdict on two sets of places, from which rows are reached from which. That it says of all pairs of walks what `Walk.Holds` says is a theorem (proofs/Decides/Verdicts).
 use Prim.Native.Nat.{ℕ}
 use mathlib.Core.Bool.{Bool, true, not, _&&_, _||_}
 use lib.ListN.{length}
@@ -18,18 +18,15 @@ reach p flow = closed (length p) (edge p flow)
 
 -- what follows takes that relation as it comes
 module _ (p : Program) (reach : ℕ → ℕ → Bool) where
-  -- a walk comes to row r; it comes there by way of row c
+  -- a walk comes to row r
   unfoldable pub reached : ℕ → Bool
   reached r = eqb r 0 || reach 0 r
-
-  unfoldable pub reachedBy : ℕ → ℕ → Bool
-  reachedBy c r = reached c && (eqb r c || reach c r)
 
   -- from row r one of the places is reached, or r is one
   unfoldable pub leads : (ℕ → Bool) → ℕ → Bool
   leads places r = places r || any (length p) λ s. reach r s && places s
 
-  -- the rows that the shared beginnings of the judged pairs of walks come to
+  -- `comes` tells the rows at which the shared beginning of two judged walks can end; where all pairs that can share a run are judged, it is `reached`
   module _ (comes : ℕ → Bool) where
     -- a walk comes to two of the places, one after the other
     unfoldable pub inARow : (ℕ → Bool) → Bool

@@ -1,4 +1,4 @@
--- Row steps, walks, and what a claim says of them.
+-- "Walks and claims": row steps, walks, pairs that can share a run, send and receive places, and what a claim says of them.
 use Prim.Native.Nat.{ℕ}
 use mathlib.Core.Bool.{Bool, true, false, _&&_, _||_, So}
 use mathlib.Core.Option.{some}
@@ -35,19 +35,19 @@ module _ (p : Program) (flow : Table) where
       has (caseOf k) (λ (s, x, t, y, w). f t || f w) ||
       has (applyOf k) (λ (g, a). any (length p) λ s. flow g (row s) && has (funAt p s) (λ (h, x, t). f t))
 
-  -- a bind other than a case or an apply steps to its rest
+  -- "a bind other than case and apply steps to its rest"
   unfoldable pub toRest : ℕ → ℕ → Bool
   toRest r s = has (bindAt p r) λ b. plain (b .form) && eqb s (b .rest)
 
-  -- a spawn steps to the spawned row too
+  -- "spawn also to its spawned row"
   unfoldable pub toChild : ℕ → ℕ → Bool
   toChild r s = has (forkAt p r) λ (t, rest). eqb s t
 
-  -- a case or an apply steps to what it calls
+  -- "A case steps to both branches", "An apply steps to the body of each fun row in V(F)"
   unfoldable pub toCalled : ℕ → ℕ → Bool
   toCalled r s = someCalled r (eqb s)
 
-  -- the result row of what is called steps to the caller's rest
+  -- "and their result rows to the case's rest", "and that body's result row to the apply's rest"
   unfoldable pub toCaller : ℕ → ℕ → Bool
   toCaller r s = any (length p) λ q. has (bindAt p q) (λ b. eqb s (b .rest)) && someCalled q (λ t. eqb r (resultRow p t))
 
@@ -55,20 +55,21 @@ module _ (p : Program) (flow : Table) where
   unfoldable pub edge : ℕ → ℕ → Bool
   edge r s = toRest r s || toChild r s || toCalled r s || toCaller r s
 
+  -- "A walk is a list of rows from row 0 by row steps"
   unfoldable pub IsWalk : Walk → Type 0
   IsWalk ε = Unit {0}
   IsWalk (w ▷ r) = IsWalk w × So (edge (lastRow w) r)
 
-  -- row r is a sync row at which something may be sent on channel row k
+  -- "A send place of channel row c is a sync row with a send row in V(E) whose C has c in its set"
   unfoldable pub sendPlace : ℕ → ℕ → Bool
   sendPlace k r = has (syncAt p r) λ e. any (length p) λ s. flow e (row s) && has (sendAt p s) λ (c, m). flow c (row k)
 
-  -- the same of what may be received
+  -- "receive places alike"
   unfoldable pub receivePlace : ℕ → ℕ → Bool
   receivePlace k r = has (syncAt p r) λ e. any (length p) λ s. flow e (row s) && has (recvAt p s) λ c. flow c (row k)
 
 module _ (p : Program) where
-  -- the two agree up to a spawn row; then the first enters the spawned row and the second the rest
+  -- "they agree up to a spawn row after which one enters the spawned row and the other the rest"
   pub record Parted (w₁ w₂ : Walk) : Type 0 where
     pub common : Walk
     pub child : ℕ
@@ -80,7 +81,7 @@ module _ (p : Program) where
   abbrev pub Shares : Walk → Walk → Type 0
   Shares w₁ w₂ = Begins w₁ w₂ ⊎ Parted w₁ w₂
 
-  -- in either order
+  -- "Two walks can share a run if one begins the other, or if they agree up to a spawn row ..", in either order
   unfoldable pub CanShare : Walk → Walk → Type 0
   CanShare w₁ w₂ = Shares w₁ w₂ ⊎ Shares w₂ w₁
 

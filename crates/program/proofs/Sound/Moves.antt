@@ -15,7 +15,7 @@ use Rattle.program.specs.Maybe.{_>>=_, when}
 use Rattle.program.specs.Program.{Program, rowAt, bindAt, nameOf, chanAt, forkAt, pairAt, leftAt, rightAt, funAt, resultName}
 use Rattle.program.specs.Run.{next, spawn, Path, made, Value, unit, channel, closure, Env, extend, lookup, closureAt, Return, State, Move, proceed, enter, start, formMoves, resultMoves, moves}
 use Rattle.program.specs.Walk.{plain}
-use Rattle.program.proofs.Each.{Each, nil, _&_, EveryTwo}
+use Rattle.program.proofs.Each.{Each, nil, _&_, EachTwo}
 use Rattle.program.proofs.Maybe.{Found, nothing, found, found-self, found-bind, found-both, found-either, found-when}
 use Rattle.program.proofs.Sound.Edges.{Calls, form-at, edge-child, calls-left, calls-right, calls-body}
 use Rattle.program.proofs.Sound.Result.{by-row, result-of-result}
@@ -40,7 +40,7 @@ module _ (p : Program) (st : State) where
 module _ (p : Program) (flow : Table) (st : State) where
   pub record Legal (ms : List Move) : Type 0 where
     pub sound : Each (Sound p flow st) ms
-    pub forked : EveryTwo (Forked p st) ms
+    pub forked : EachTwo (Forked p st) ms
 
   one-legal : (m : Move) → Sound p flow st m → Legal (m ∷ [])
   one-legal m h = record { sound = h & nil; forked = (inl refl & nil) & nil }

@@ -10,7 +10,7 @@ use Rattle.program.specs.Program.{Program, bindAt}
 use Rattle.program.specs.Run.{Path, sameLabel, Instance, sameInstance, State, Move, Thread, Pool, next, Value, unit, empty, proceed, moves, offer, receivesOn, stateOf, leaf, leafState, lengthen, Step, own, meet, added, step, after, startPool, run}
 use Rattle.program.specs.Snoc.{ε, Snoc-discrete, Continues, continues?}
 use Rattle.program.specs.Walk.{Walk, lastRow}
-use Rattle.program.proofs.Each.{Each, nil, _&_, EveryTwo, every-elim, each-at, each-member, each-imp, each-both, each-append, each-map, each-unmap, each-all, every-two-append}
+use Rattle.program.proofs.Each.{Each, nil, _&_, EachTwo, every-elim, each-at, each-member, each-imp, each-both, each-append, each-map, each-unmap, each-all, every-two-append}
 use Rattle.program.proofs.Maybe.{Found, nothing, found, found-self, found-bind}
 use Rattle.program.proofs.Snoc.{size}
 use Rattle.program.proofs.Sound.Moves.{Forked}
@@ -45,7 +45,7 @@ module _ (p : Program) where
   -- what holds of the first thread and is kept by every step
   pub record Invariant (Inv : Traced → Type 0) : Type 0 where
     pub start : Inv first
-    pub own : (t : Traced) → Level t → Inv t → Found (λ ms. Each (λ m. Inv (child t m)) ms × EveryTwo (Forked p (t .state)) ms) (moves p (t .path) (t .state))
+    pub own : (t : Traced) → Level t → Inv t → Found (λ ms. Each (λ m. Inv (child t m)) ms × EachTwo (Forked p (t .state)) ms) (moves p (t .path) (t .state))
     pub meet : (x y : Traced) → Level x → Level y → Inv x → Inv y → (b d : Bind) → bindAt p (x .state .row) ≡ some b → bindAt p (y .state .row) ≡ some d
         → (i : Instance) (v : Value) → offer p (x .state) ≡ some (i, v) → receivesOn p (y .state) ≡ some i
         → Inv (child x (proceed (x .state) b unit)) × Inv (child y (proceed (y .state) d v))
@@ -55,7 +55,7 @@ module _ (p : Program) where
     pub record Traces (ts : List Traced) : Type 0 where
       pub levels : Each Level ts
       pub kept : Each Inv ts
-      pub related : EveryTwo (Related p) ts
+      pub related : EachTwo (Related p) ts
 
     -- a pool that has traces
     pub record Traceable (pool : Pool) : Type 0 where

@@ -18,7 +18,7 @@ use Rattle.program.proofs.Each.{Each, _&_, every-elim, each-right}
 use Rattle.program.proofs.Maybe.{Found, found, found-self, found-bind, found-at, found-map}
 use Rattle.program.proofs.Sound.Forms.{chan-form, spawn-form}
 use Rattle.program.proofs.Test.{and-left, and-right, or-left, or-right, or-cases, and-intro, all-elim, not-elim, not-intro}
-use Rattle.program.proofs.WellFormed.{distinct, rising, WellFormed}
+use Rattle.program.proofs.WellFormed.{distinct, pointersRise, WellFormed}
 
 -- a bind stands at a row of the program
 pub bind-bound : (p : Program) (r : ℕ) (b : Bind) → bindAt p r ≡ some b → r < length p
@@ -110,7 +110,7 @@ chan-at p n c e = found-at e (found-bind (found-self (bindAt p c)) binds)
 -- the three facts that the run's soundness rests on
 module _ (p : Program) (well : WellFormed p) where
   pub rests-rise : (r : ℕ) → r < length p → Each (λ t. So (ltb r t && ltb t (length p))) (pointers (rowAt p r))
-  unfolding rising
+  unfolding pointersRise
   rests-rise r l = every-elim _ _ (all-elim (length p) _ (well .rises) r l)
 
   pub rest-rises : (r : ℕ) (b : Bind) → bindAt p r ≡ some b → (r < b .rest) × (b .rest < length p)

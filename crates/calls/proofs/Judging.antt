@@ -1,0 +1,112 @@
+-- Judge is exact: what it answers of a well-formed document, case by case.
+use Prim.Native.Nat.{ℕ, _+_, _<_}
+use mathlib.Core.Bool.{Bool, true, false, not, _&&_, So, false≢true}
+use mathlib.Core.List.{List, [], _∷_, _++_}
+use mathlib.Core.Option.{Option, none, some}
+use mathlib.Core.Path.{_≡_, refl, sym, ap, _∙_, subst}
+use mathlib.Core.Logic.{_↔_}
+use native.Mathlib.Omega.{arith}
+use lib.ListN.{length}
+use borrow.Author.Tests.{not-false, not-true}
+use Rattle.program.specs.declared.Word.{Word}
+use Rattle.program.specs.declared.Bind.{Bind}
+use Rattle.program.specs.declared.Row.{Row}
+use Rattle.program.specs.Test.{all, least}
+use Rattle.program.specs.Program.{Program, bindAt}
+use Rattle.program.specs.Flow.{keepsAt, keepsAll}
+use Rattle.program.specs.FlowRule.{FlowRule, KeepsAll}
+use Rattle.program.specs.Walk.{CanShare, Holds, sendPlace, receivePlace}
+use Rattle.program.proofs.Test.{and-left, and-right, all-intro, least-is, Least, none-passes, smallest}
+use Rattle.program.proofs.Maybe.{when-intro}
+use Rattle.program.proofs.Each.{Each, _&_, each-imp, each-right}
+use Rattle.program.proofs.WellFormed.{WellFormed}
+use Rattle.program.proofs.FlowRule.{rule-iff, when-iff, keeps-iff}
+use Rattle.program.proofs.Decides.Verdicts.{claim-iff}
+use Rattle.format.specs.declared.Reason.the-variants.{FlowRuleFails, ClaimFails}
+use Rattle.format.specs.declared.Refusal.{Refusal}
+use Rattle.format.specs.Refusals.{refusal, Result, refused, accepted}
+use Rattle.format.specs.Document.{Claim, Document}
+use Rattle.format.specs.Read.{present}
+use Rattle.format.specs.Structure.{rowLine, claimLine, structureFault}
+use Rattle.format.specs.WellFormed.{orderly, wellFormed}
+use Rattle.format.proofs.First.{First, all-pass, fails, first-is}
+use Rattle.format.proofs.Order.{orderly-iff}
+use Rattle.format.proofs.Structure.{well-formed}
+use Rattle.calls.specs.Judging.{flowTable, commTable, wordHolds, WordHolds, reaches, failingRow, failingClaim, after10, judgeClaims, judgeDocument}
+
+-- a well-formed document has a row, and its program is well-formed
+pub rows-well : (d : Document) → So (wellFormed d) → WellFormed (d .rows) × (0 < length (d .rows))
+unfolding wellFormed
+rows-well d w = (well-formed d (none-found (structureFault d) (and-right (orderly d) _ w)), some-row (d .rows) (orderly-iff d .0 (and-left (orderly d) _ w) .0))
+  where
+    none-found : (o : Option Refusal) → So (elim o [ none ↦ true | some r ↦ false ]) → o ≡ none
+    none-found none t = refl
+    none-found (some r) t = absurd (false≢true t)
+
+    some-row : (p : List Row) → So (present p) → 0 < length p
+    some-row [] t = absurd (false≢true (unfold present in t))
+    some-row (x ∷ xs) t = omega arith
+
+module _ (d : Document) (w : So (wellFormed d)) where
+  -- a verdict is yes exactly if the word holds over all pairs of walks that can share a run
+  pub word-iff : (c : ℕ) (word : Word) → So (wordHolds d (reaches d) c word) ↔ WordHolds d c word
+  unfolding wordHolds reaches WordHolds
+  word-iff c word = let (well, rows) = rows-well d w in claim-iff (d .rows) well (flowTable d) rows word (sendPlace (d .rows) (flowTable d) c) (receivePlace (d .rows) (flowTable d) c)
+
+-- the flow rule holds at row r, if it is a bind
+unfoldable pub RowKeeps : Document → ℕ → Type 0
+RowKeeps d r = (b : Bind) → bindAt (d .rows) r ≡ some b → FlowRule (d .rows) (flowTable d) (commTable d) r (b .name) (b .form)
+
+pub row-iff : (d : Document) (r : ℕ) → So (keepsAt (d .rows) (flowTable d) (commTable d) r) ↔ RowKeeps d r
+unfolding keepsAt RowKeeps
+row-iff d r = (
+  λ t b e. rule-iff (d .rows) (flowTable d) (commTable d) r (b .name) (b .form) .0 (when-iff (bindAt (d .rows) r) _ .0 t b e),
+  λ h. when-intro _ (bindAt (d .rows) r) (λ b e. rule-iff (d .rows) (flowTable d) (commTable d) r (b .name) (b .form) .1 (h b e)),
+)
+
+abbrev pub ClaimHolds : Document → Claim → Type 0
+ClaimHolds d k = WordHolds d (k .channel) (k .word)
+
+-- what judge answers of a document: all holds; or the smallest row whose flow rule fails; or the rules hold, and the first claim that fails
+pub data Judged (d : Document) : Result ℕ → Type 0 where
+  holds : KeepsAll (d .rows) (flowTable d) (commTable d) → Each (ClaimHolds d) (d .claims) → Judged d (accepted (length (d .claims)))
+  rule-fails : (r : ℕ) → r < length (d .rows) → ¬ (RowKeeps d r) → ((j : ℕ) → j < r → RowKeeps d j) → Judged d (refused (refusal FlowRuleFails (rowLine r)))
+  claim-fails : {line : ℕ} → KeepsAll (d .rows) (flowTable d) (commTable d) → (before : List Claim) (k : Claim) (after : List Claim) → d .claims ≡ before ++ (k ∷ after)
+      → Each (ClaimHolds d) before → ¬ (ClaimHolds d k) → line ≡ claimLine d + length before → Judged d (refused (refusal ClaimFails line))
+
+pub judge-exact : (d : Document) → So (wellFormed d) → Judged d (judgeDocument d)
+unfolding judgeDocument after10 failingRow
+judge-exact d w = rules (failingRow d) (least-is (length (d .rows)) (λ r. not (keepsAt (d .rows) (flowTable d) (commTable d) r)))
+  where
+    kept : (r : ℕ) → not (keepsAt (d .rows) (flowTable d) (commTable d) r) ≡ false → RowKeeps d r
+    kept r e = row-iff d r .0 (not-false _ e)
+
+    claims : KeepsAll (d .rows) (flowTable d) (commTable d) → (o : Option ℕ) → First (λ k. wordHolds d (reaches d) (k .channel) (k .word)) (claimLine d) (d .claims) o → Judged d (judgeClaims d o)
+    claims h none (all-pass k) = unfold judgeClaims in holds h (each-imp (λ c t. word-iff d w (c .channel) (c .word) .0 t) k)
+    claims h (some line) (fails before k after e passed failed m) =
+        unfold judgeClaims in claim-fails h before k after e (each-imp (λ c t. word-iff d w (c .channel) (c .word) .0 t) passed) (λ t. false≢true (sym failed ∙ word-iff d w (k .channel) (k .word) .1 t)) m
+
+    rules : (o : Option ℕ) → Least (length (d .rows)) (λ r. not (keepsAt (d .rows) (flowTable d) (commTable d) r)) o
+        → Judged d (elim o as (λ o. Result ℕ) [ some r ↦ refused (refusal FlowRuleFails (rowLine r)) | none ↦ judgeClaims d (failingClaim d (reaches d)) ])
+    rules none (none-passes h) =
+        unfold failingClaim in
+        claims (keeps-iff (d .rows) (flowTable d) (commTable d) .0 (unfold keepsAll in all-intro (length (d .rows)) _ (λ r l. not-false _ (h r l))))
+        (failingClaim d (reaches d)) (first-is (λ k. wordHolds d (reaches d) (k .channel) (k .word)) (claimLine d) (d .claims))
+    rules (some r) (smallest l t h) = rule-fails r l (λ k. false≢true (sym (not-true _ t) ∙ row-iff d r .1 k)) (λ j m. kept j (h j m))
+
+-- judge accepts exactly if every row's flow rule and every claim hold
+pub accepts-iff : (d : Document) → So (wellFormed d) → (n : ℕ) → (judgeDocument d ≡ accepted n) ↔ (KeepsAll (d .rows) (flowTable d) (commTable d) × Each (ClaimHolds d) (d .claims) × (n ≡ length (d .claims)))
+accepts-iff d w n = (λ e. there (judgeDocument d) (judge-exact d w) e, λ (h, k, e). back h k e (judgeDocument d) (judge-exact d w))
+  where
+    there : (r : Result ℕ) → Judged d r → r ≡ accepted n → KeepsAll (d .rows) (flowTable d) (commTable d) × Each (ClaimHolds d) (d .claims) × (n ≡ length (d .claims))
+    there r (holds h k) e = (h, k, let q : n ≡ length (d .claims) = cc in q)
+    there r (rule-fails i l f m) e = let z : _≡_ {A = ℕ} 0 1 = cc in absurd (omega arith)
+    there r (claim-fails h before k after s m f q) e = let z : _≡_ {A = ℕ} 0 1 = cc in absurd (omega arith)
+
+    back : KeepsAll (d .rows) (flowTable d) (commTable d) → Each (ClaimHolds d) (d .claims) → n ≡ length (d .claims) → (r : Result ℕ) → Judged d r → r ≡ accepted n
+    back h k e r (holds h′ k′) = ap accepted (sym e)
+    back h k e r (rule-fails i l f m) = absurd (f (unfold RowKeeps KeepsAll in h i))
+    back h k e r (claim-fails h′ before c after s m f q) = absurd (f (head (each-right before (c ∷ after) (subst (λ (cs : List Claim). Each (ClaimHolds d) cs) s k))))
+      where
+        head : Each (ClaimHolds d) (c ∷ after) → ClaimHolds d c
+        head (p & ps) = p

@@ -1,0 +1,139 @@
+-- What refusals 6 and 7 leave: every pointer leads to a later row, no row is pointed at twice, no name is bound twice.
+use Prim.Native.Nat.{ℕ, zero, suc, _+_, _<_, _≤_}
+use mathlib.Core.Bool.{Bool, true, false, not, _&&_, _||_, So, false≢true}
+use mathlib.Core.List.{List, [], _∷_, _++_, append-assoc, append-nil}
+use mathlib.Core.Option.{Option, none, some}
+use mathlib.Core.Path.{_≡_, refl, sym, ap, _∙_}
+use mathlib.Core.Logic.{⊎-elim}
+use native.Mathlib.Omega.{arith}
+use lib.ListN.{length, take, getD}
+use lib.Seq.{take-suc, take-all}
+use lib.Dec.{ltb, eqb}
+use borrow.Author.Tests.{not-false, not-true, ne-eqb, eqb-false}
+use Rattle.program.specs.declared.Row.{Row}
+use Rattle.program.specs.Test.{all, least}
+use Rattle.program.specs.Maybe.{_>>=_, _<|>_}
+use Rattle.program.specs.Each.{every, collect, elem}
+use Rattle.program.specs.Program.{Program, rowAt, pointers, binders}
+use Rattle.program.proofs.Test.{and-left, and-right, and-intro, not-intro, not-elim, or-cases, or-left, or-right, all-intro, least-none}
+use Rattle.program.proofs.WellFormed.{distinct, pointersRise, WellFormed}
+use Rattle.format.specs.declared.Reason.the-variants.{WrongPointer, BoundTwice, OutOfScope, NotAllowed}
+use Rattle.format.specs.declared.Refusal.{Refusal}
+use Rattle.format.specs.Document.{Document}
+use Rattle.format.specs.Structure.{wrongPointers, pointerFault, boundEarlier, binderFault, scopeLine, notAllowed, structureFault}
+
+or-false : (a b : Bool) → (a || b) ≡ false → (a ≡ false) × (b ≡ false)
+or-false true b e = absurd (false≢true (sym e))
+or-false false b e = (refl, e)
+
+-- ---- 6: the rows that one row points at
+
+-- each is later and there, and none is pointed at earlier
+right-pointers : (n r : ℕ) (earlier ts : List ℕ) → wrongPointers n r earlier ts ≡ false → So (every (λ t. ltb r t && ltb t n) ts) × (boundEarlier earlier ts ≡ false)
+unfolding wrongPointers boundEarlier every
+right-pointers n r earlier [] e = (refl, refl)
+right-pointers n r earlier (t ∷ ts) e =
+    let (h, k) = or-false (not (ltb r t && ltb t n) || elem t earlier) (wrongPointers n r (t ∷ earlier) ts) e in
+    let (i, j) = or-false (not (ltb r t && ltb t n)) (elem t earlier) h in
+    let (v, w) = right-pointers n r (t ∷ earlier) ts k in
+    (and-intro (not-false (ltb r t && ltb t n) i) v, rw (j, w))
+
+-- ---- numbers that are each new are all different
+
+elem-append : (n : ℕ) (xs ys : List ℕ) → elem n (xs ++ ys) ≡ (elem n xs || elem n ys)
+unfolding elem
+elem-append n [] ys = refl
+elem-append n (x ∷ xs) ys = ap (λ (b : Bool). eqb n x || b) (elem-append n xs ys) ∙ assoc (eqb n x) (elem n xs) (elem n ys)
+  where
+    assoc : (a b c : Bool) → (a || (b || c)) ≡ (a || b || c)
+    assoc true b c = refl
+    assoc false b c = refl
+
+distinct-snoc : (xs : List ℕ) (y : ℕ) → So (distinct xs) → elem y xs ≡ false → So (distinct (xs ++ (y ∷ [])))
+unfolding distinct elem
+distinct-snoc [] y h e = refl
+distinct-snoc (x ∷ xs) y h e =
+    let (i, j) = or-false (eqb y x) (elem y xs) e in
+    let k : eqb x y ≡ false = ne-eqb x y (λ q. eqb-false y x i (sym q)) in
+    let l : elem x xs ≡ false = not-true (elem x xs) (and-left (not (elem x xs)) (distinct xs) h) in
+    rw (elem-append x xs (y ∷ []), l, k) (distinct-snoc xs y (and-right (not (elem x xs)) (distinct xs) h) j)
+
+-- numbers of which none is in xs, nor twice among them
+fresh-distinct : (xs ys earlier : List ℕ) → So (distinct xs) → ((n : ℕ) → So (elem n xs) → So (elem n earlier)) → boundEarlier earlier ys ≡ false → So (distinct (xs ++ ys))
+unfolding boundEarlier elem
+fresh-distinct xs [] earlier h k e = rw (append-nil) h
+fresh-distinct xs (y ∷ ys) earlier h k e =
+    let (i, j) = or-false (elem y earlier) (boundEarlier (y ∷ earlier) ys) e in
+    let new : elem y xs ≡ false = not-true (elem y xs) (not-intro (elem y xs) (λ t. false≢true (sym i ∙ k y t))) in
+    rw (append-assoc xs (y ∷ []) ys) at (fresh-distinct (xs ++ (y ∷ [])) ys (y ∷ earlier) (distinct-snoc xs y h new) (λ n t. within n (rw (elem-append n xs (y ∷ [])) at t)) j)
+  where
+    within : (n : ℕ) → So (elem n xs || (eqb n y || false)) → So (eqb n y || elem n earlier)
+    within n t = ⊎-elim (λ a. or-right (eqb n y) (k n a)) (λ a. ⊎-elim (λ b. or-left (elem n earlier) b) (λ b. absurd (false≢true b)) (or-cases (eqb n y) false a)) (or-cases (elem n xs) (eqb n y || false) t)
+
+-- ---- over all rows
+
+module _ (f : Row → List ℕ) (p : Program) where
+  collect-append : (xs ys : Program) → collect f (xs ++ ys) ≡ collect f xs ++ collect f ys
+  unfolding collect
+  collect-append [] ys = refl
+  collect-append (x ∷ xs) ys = ap (λ (l : List ℕ). f x ++ l) (collect-append xs ys) ∙ sym (append-assoc (f x) (collect f xs) (collect f ys))
+
+  collect-next : (r : ℕ) → r < length p → collect f (take (suc r) p) ≡ collect f (take r p) ++ f (rowAt p r)
+  unfolding collect rowAt
+  collect-next r l = ap (collect f) (take-suc p r (Row.Result 0) l) ∙ collect-append (take r p) (getD p r (Row.Result 0) ∷ []) ∙ ap (λ (l : List ℕ). collect f (take r p) ++ l) (append-nil (f (getD p r (Row.Result 0))))
+
+  distinct-rows : ((r : ℕ) → r < length p → boundEarlier (collect f (take r p)) (f (rowAt p r)) ≡ false) → (r : ℕ) → r ≤ length p → So (distinct (collect f (take r p)))
+  unfolding collect distinct
+  distinct-rows h zero l = refl
+  distinct-rows h (suc r) l = rw (collect-next r l) (fresh-distinct (collect f (take r p)) (f (rowAt p r)) (collect f (take r p)) (distinct-rows h r (omega arith)) (λ n t. t) (h r l))
+
+  pub all-distinct : ((r : ℕ) → r < length p → boundEarlier (collect f (take r p)) (f (rowAt p r)) ≡ false) → So (distinct (collect f p))
+  all-distinct h = rw (take-all (length p) p (omega arith)) at (distinct-rows h (length p) (omega arith))
+
+-- ---- a document without a structure fault
+
+-- the four parts of which none finds a fault
+alternatives : (a b c d : Option Refusal) → (a <|> b <|> c <|> d) ≡ none → (a ≡ none) × (b ≡ none) × (c ≡ none) × (d ≡ none)
+unfolding _<|>_
+alternatives none none none d e = (refl, refl, refl, e)
+alternatives (some x) b c d e = let z : _≡_ {A = ℕ} 0 1 = cc in absurd (omega arith)
+alternatives none (some x) c d e = let z : _≡_ {A = ℕ} 0 1 = cc in absurd (omega arith)
+alternatives none none (some x) d e = let z : _≡_ {A = ℕ} 0 1 = cc in absurd (omega arith)
+
+bind-none : {A B : Type 0} (o : Option A) (f : A → B) → (o >>= λ a. some (f a)) ≡ none → o ≡ none
+unfolding _>>=_
+bind-none none f e = refl
+bind-none (some a) f e = let z : _≡_ {A = ℕ} 0 1 = cc in absurd (omega arith)
+
+pub record Structured (d : Document) : Type 0 where
+  pub pointers-right : (r : ℕ) → r < length (d .rows) → pointerFault (d .rows) r ≡ false
+  pub binders-right : (r : ℕ) → r < length (d .rows) → binderFault (d .rows) r ≡ false
+  pub scope-right : scopeLine (d .rows) ≡ none
+  pub allowed : notAllowed d ≡ none
+
+pub structured : (d : Document) → structureFault d ≡ none → Structured d
+unfolding structureFault
+structured d e =
+    let (a, b, c, f) = alternatives _ _ _ _ e in
+    record {
+      pointers-right = least-none (length (d .rows)) (pointerFault (d .rows)) (bind-none (least (length (d .rows)) (pointerFault (d .rows))) _ a);
+      binders-right = least-none (length (d .rows)) (binderFault (d .rows)) (bind-none (least (length (d .rows)) (binderFault (d .rows))) _ b);
+      scope-right = bind-none (scopeLine (d .rows)) _ c;
+      allowed = bind-none (notAllowed d) _ f;
+    }
+
+pub well-formed : (d : Document) → structureFault d ≡ none → WellFormed (d .rows)
+unfolding pointerFault binderFault pointersRise
+well-formed d e =
+    let s = structured d e in
+    let p = d .rows in
+    record {
+      rises = all-intro (length p) _ (λ r l. pointed r l .0);
+      pointedOnce = all-distinct pointers p (λ r l. pointed r l .1);
+      boundOnce = all-distinct binders p (s .binders-right);
+    }
+  where
+    pointed : (r : ℕ) → r < length (d .rows) → So (every (λ t. ltb r t && ltb t (length (d .rows))) (pointers (rowAt (d .rows) r))) × (boundEarlier (collect pointers (take r (d .rows))) (pointers (rowAt (d .rows) r)) ≡ false)
+    pointed r l =
+        right-pointers (length (d .rows)) r (collect pointers (take r (d .rows))) (pointers (rowAt (d .rows) r))
+        (or-false (wrongPointers (length (d .rows)) r (collect pointers (take r (d .rows))) (pointers (rowAt (d .rows) r))) _ (structured d e .pointers-right r l) .0)
