@@ -1,0 +1,146 @@
+//! Random documents: programs with tables and claims of various kinds.
+
+use super::{narrow, program, widen, Random, Size, Tables};
+use crate::reference::document::{Claim, Document, Word};
+use crate::reference::verdict::{counted_pairs, places, verdict_of, word_holds};
+
+/// A document with the least tables of a random program and no claims.
+pub fn least_document(random: &mut Random, size: Size) -> Document {
+    let mut document = Document {
+        rows: program(random, size),
+        ..Document::default()
+    };
+    Tables::empty().close(&document.rows).put(&mut document);
+    document
+}
+
+/// The same with tables that keep the flow rules but are wider.
+pub fn wide_document(random: &mut Random, size: Size) -> Document {
+    let mut document = Document {
+        rows: program(random, size),
+        ..Document::default()
+    };
+    let mut tables = Tables::empty();
+    let count = 1 + random.below(4);
+    widen(random, &document.rows, &mut tables, count);
+    tables.close(&document.rows).put(&mut document);
+    document
+}
+
+/// The same with any tables that load takes, mostly against the flow rules.
+pub fn loose_document(random: &mut Random, size: Size) -> Document {
+    let mut document = Document {
+        rows: program(random, size),
+        ..Document::default()
+    };
+    let mut tables = Tables::empty();
+    if random.chance(1, 2) {
+        tables = tables.close(&document.rows);
+    }
+    let count = random.below(2 * document.rows.len());
+    widen(random, &document.rows, &mut tables, count);
+    tables.put(&mut document);
+    document
+}
+
+/// The first of some documents in which a channel's verdict has a no, or the
+/// last of them.
+pub fn contested(
+    random: &mut Random,
+    size: Size,
+    generate: impl Fn(&mut Random, Size) -> Document,
+) -> Document {
+    let mut document = generate(random, size);
+    for _ in 0..8 {
+        let pairs = counted_pairs(&document);
+        let mut channels = document.chan_rows().into_iter();
+        if channels.any(|channel| verdict_of(&pairs, &places(&document, channel)) != [true; 4]) {
+            break;
+        }
+        document = generate(random, size);
+    }
+    document
+}
+
+/// Claims that hold, on most chan rows.
+pub fn claim_truly(random: &mut Random, document: &mut Document) {
+    let pairs = counted_pairs(document);
+    let mut claims = vec![];
+    for channel in document.chan_rows() {
+        let verdict = verdict_of(&pairs, &places(document, channel));
+        let mut words = Word::ALL.to_vec();
+        words.retain(|&word| word_holds(word, verdict));
+        // `many` says nothing: drawn only now and then where another holds.
+        if words.len() > 1 && random.chance(5, 6) {
+            words.retain(|&word| word != Word::Many);
+        }
+        if let Some(&word) = random.pick(&words) {
+            if random.chance(7, 8) {
+                claims.push(Claim { channel, word });
+            }
+        }
+    }
+    document.claims = claims;
+}
+
+/// Claims of which some do not hold, where any can fail.
+pub fn claim_falsely(random: &mut Random, document: &mut Document) {
+    let pairs = counted_pairs(document);
+    let mut claims = vec![];
+    for channel in document.chan_rows() {
+        let verdict = verdict_of(&pairs, &places(document, channel));
+        let mut words = Word::ALL.to_vec();
+        if random.chance(2, 3) && verdict != [true; 4] {
+            words.retain(|&word| !word_holds(word, verdict));
+        }
+        if let Some(&word) = random.pick(&words) {
+            claims.push(Claim { channel, word });
+        }
+    }
+    document.claims = claims;
+}
+
+/// Any claims, on some chan rows.
+pub fn claim_anything(random: &mut Random, document: &mut Document) {
+    let mut claims = vec![];
+    for channel in document.chan_rows() {
+        if let Some(&word) = random.pick(&Word::ALL) {
+            if random.chance(3, 4) {
+                claims.push(Claim { channel, word });
+            }
+        }
+    }
+    document.claims = claims;
+}
+
+/// A document that judge accepts.
+pub fn accepted_document(random: &mut Random, size: Size) -> Document {
+    let mut document = match random.below(8) {
+        0 | 1 => least_document(random, size),
+        2 => wide_document(random, size),
+        3 => contested(random, size, wide_document),
+        _ => contested(random, size, least_document),
+    };
+    claim_truly(random, &mut document);
+    document
+}
+
+/// A document that load takes, judged this way or that.
+pub fn loadable_document(random: &mut Random, size: Size) -> Document {
+    let mut document = match random.below(8) {
+        0 => wide_document(random, size),
+        1 => loose_document(random, size),
+        2 => least_document(random, size),
+        3 => contested(random, size, wide_document),
+        _ => contested(random, size, least_document),
+    };
+    if random.chance(1, 4) {
+        narrow(random, &mut document);
+    }
+    if random.chance(1, 2) {
+        claim_truly(random, &mut document);
+    } else {
+        claim_anything(random, &mut document);
+    }
+    document
+}

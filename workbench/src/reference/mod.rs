@@ -1,0 +1,14 @@
+//! The reference: document 01 rendered sentence by sentence, clear before fast.
+//!
+//! It works on documents (lists of rows, sets and claims), not on a byte store.
+
+pub mod check;
+pub mod document;
+pub mod flow;
+pub mod print;
+pub mod read;
+pub mod refusal;
+pub mod run;
+pub mod steps;
+pub mod structure;
+pub mod verdict;
