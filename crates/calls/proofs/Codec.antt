@@ -3,6 +3,7 @@ pub mod Sparse
 pub mod Rows
 pub mod Sets
 pub mod Claims
+pub mod Adding
 use Prim.Native.Nat.{ℕ, _≤_, _<_}
 use native.Mathlib.Nat.{le-trans}
 use native.Mathlib.Omega.{arith}

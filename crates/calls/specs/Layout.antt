@@ -40,6 +40,16 @@ setsSize = rowLimit * memberLimit
 abbrev pub storeSize : ℕ
 storeSize = rowsSize + setsSize + setsSize + rowLimit
 
+-- where the set of name n, that of channel row c, and the claim on row c stand
+abbrev pub flowAt : ℕ → ℕ
+flowAt n = rowsSize + n * memberLimit
+
+abbrev pub commAt : ℕ → ℕ
+commAt c = rowsSize + setsSize + c * memberLimit
+
+abbrev pub claimAt : ℕ → ℕ
+claimAt c = rowsSize + setsSize + setsSize + c
+
 -- f i, f (i + 1) and so on, n of them
 unfoldable pub counting : {A : Type 0} → ℕ → ℕ → (ℕ → A) → List A
 counting zero i f = []

@@ -53,10 +53,13 @@ unfolding rowBytes padded rowOf
 coded (Row.Result n) = record { size = refl; kind = refl; back = refl }
 coded (Row.Bind b) = coded-bind (b .name) (b .form) (b .rest)
 
-rows-length : (xs : Program) → length (collect rowBytes xs) ≡ length xs * rowSize
+pub rows-length : (xs : Program) → length (collect rowBytes xs) ≡ length xs * rowSize
 unfolding collect
 rows-length [] = refl
 rows-length (x ∷ xs) = simp (length-append, coded x .size, rows-length xs) (omega arith)
+
+pub row-size : (x : Row) → length (rowBytes x) ≡ rowSize
+row-size x = coded x .size
 
 kind-range : (x : Row) → (0 < getD (rowBytes x) 0 0) × (getD (rowBytes x) 0 0 < 256)
 kind-range x =

@@ -39,7 +39,7 @@ unfolding flagged elem lookup
 flag-lookup [] k = refl
 flag-lookup (m ∷ ms) k = either (eqb k m) (λ e. rw (e, eqb-true k m e)) (λ e. rw e (flag-lookup ms k))
 
-flags-length : (ms : List ℕ) → length (flagsOf ms) ≡ memberLimit
+pub flags-length : (ms : List ℕ) → length (flagsOf ms) ≡ memberLimit
 unfolding flagsOf
 flags-length ms = counting-length memberLimit 0 _
 

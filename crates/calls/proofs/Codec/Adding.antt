@@ -1,0 +1,307 @@
+-- A line added to a document changes one part of the store, which was 0 before.
+use Prim.Native.Nat.{ℕ, zero, suc, _+_, _*_, _-_, _≤_, _<_}
+use native.Mathlib.Omega.{arith}
+use native.Mathlib.Nat.{add-zero, zero-add, suc-add, add-suc}
+use mathlib.Core.Bool.{Bool, true, false, So, false≢true}
+use mathlib.Core.List.{List, [], _∷_, _++_, append-assoc, append-nil}
+use mathlib.Core.Path.{_≡_, refl, sym, ap, _∙_}
+use mathlib.Core.Logic.{_≢_}
+use lib.ListN.{length, take, drop, replicate, length-append, length-replicate, replicate-append-replicate}
+use lib.Seq.{take-at, drop-at}
+use lib.Dec.{ltb, eqb}
+use borrow.Author.Tests.{ltb-true, eq-eqb, ne-eqb}
+use Rattle.program.specs.declared.Row.{Row}
+use Rattle.program.specs.Test.{pick}
+use Rattle.program.specs.Each.{every, collect, elem}
+use Rattle.program.specs.Program.{Program}
+use Rattle.program.proofs.Test.{and-left, and-right}
+use Rattle.format.specs.Limits.{rowLimit}
+use Rattle.format.specs.Text.{Bytes}
+use Rattle.format.specs.Document.{Entry, Claim, Document, Line, row, flow, comm, claim, membersAt}
+use Rattle.format.specs.Read.{add, noLines}
+use Rattle.calls.specs.Layout.{rowSize, rowsSize, setsSize, memberLimit, storeSize, flowAt, commAt, claimAt, counting, padded, rowBytes, flagsOf, setsBytes, wordCode, claimCode, encode}
+use Rattle.calls.proofs.Codec.Sparse.{counting-length}
+use Rattle.calls.proofs.Codec.Rows.{rows-length, row-size, rows-part-length}
+use Rattle.calls.proofs.Codec.Sets.{flags-length, sets-bytes-length}
+
+-- s with the bytes at a position replaced
+abbrev pub patch : ℕ → Bytes → Bytes → Bytes
+patch at new s = take at s ++ (new ++ drop (at + length new) s)
+
+pub patch-middle : (a old new c : Bytes) (at : ℕ) → length a ≡ at → length old ≡ length new → patch at new (a ++ (old ++ c)) ≡ a ++ (new ++ c)
+patch-middle a old new c at e l =
+    let n : length (a ++ old) ≡ at + length new = length-append a old ∙ omega arith in
+    rw (take-at a (old ++ c) at e, ← append-assoc a old c, drop-at (a ++ old) c (at + length new) n)
+
+-- ---- parts of equal size, one for each number
+
+chunks : (ℕ → Bytes) → ℕ → ℕ → Bytes
+chunks g n i = collect g (counting n i λ n. n)
+
+chunks-split : (g : ℕ → Bytes) (k m i : ℕ) → chunks g (k + suc m) i ≡ chunks g k i ++ (g (i + k) ++ chunks g m (suc (i + k)))
+unfolding chunks collect counting
+chunks-split g zero m i = rw (zero-add, add-zero)
+chunks-split g (suc k) m i =
+    let e : suc k + suc m ≡ suc (k + suc m) = omega arith in
+    let q : suc i + k ≡ i + suc k = omega arith in
+    rw e (ap (λ (x : Bytes). g i ++ x) (chunks-split g k m (suc i)) ∙ rw q (sym (append-assoc (g i) (chunks g k (suc i)) (g (i + suc k) ++ chunks g m (suc (i + suc k))))))
+
+chunks-same : (g h : ℕ → Bytes) (k i : ℕ) → ((n : ℕ) → i ≤ n → n < i + k → g n ≡ h n) → chunks g k i ≡ chunks h k i
+unfolding chunks collect counting
+chunks-same g h zero i e = refl
+chunks-same g h (suc k) i e = rw (e i (omega arith) (omega arith), chunks-same g h k (suc i) (λ n l m. e n (omega arith) (omega arith)))
+
+chunks-length : (g : ℕ → Bytes) (k i : ℕ) → ((n : ℕ) → length (g n) ≡ memberLimit) → length (chunks g k i) ≡ k * memberLimit
+unfolding chunks collect counting
+chunks-length g zero i e = refl
+chunks-length g (suc k) i e = length-append (g i) (chunks g k (suc i)) ∙ rw (e i, chunks-length g k (suc i) e) (omega arith)
+
+-- ---- sets
+
+members-other : (es : List Entry) (e : Entry) (n : ℕ) → n ≢ e .key → membersAt (es ++ (e ∷ [])) n ≡ membersAt es n
+unfolding membersAt
+members-other [] e n d = rw (ne-eqb n (e .key) d, membersAt)
+members-other (f ∷ es) e n d = go (eqb n (f .key)) (members-other es e n d)
+  where
+    go : (b : Bool) → membersAt (es ++ (e ∷ [])) n ≡ membersAt es n → _≡_ {A = List ℕ} (elim b [ true ↦ f .members | false ↦ membersAt (es ++ (e ∷ [])) n ]) (elim b [ true ↦ f .members | false ↦ membersAt es n ])
+    go true h = refl
+    go false h = h
+
+-- a key above all that are there has no set yet
+members-new : (es : List Entry) (e : Entry) → So (every (λ f. ltb (f .key) (e .key)) es) → (membersAt es (e .key) ≡ []) × (membersAt (es ++ (e ∷ [])) (e .key) ≡ e .members)
+unfolding membersAt every
+members-new [] e h = (refl, rw (eq-eqb (e .key) (e .key) refl, membersAt))
+members-new (f ∷ es) e h =
+    let l = ltb-true (f .key) (e .key) (and-left (ltb (f .key) (e .key)) _ h) in
+    let (a, b) = members-new es e (and-right (ltb (f .key) (e .key)) _ h) in
+    let d : eqb (e .key) (f .key) ≡ false = ne-eqb (e .key) (f .key) (λ q. omega arith) in
+    (rw (d, membersAt) a, rw (d, membersAt) b)
+
+flags-none : (n i : ℕ) → counting {A = ℕ} n i (λ m. pick (elem m []) 1 0) ≡ replicate n 0
+unfolding counting elem
+flags-none zero i = refl
+flags-none (suc n) i = ap (λ (l : Bytes). 0 ∷ l) (flags-none n (suc i))
+
+-- the part of the sets that a new entry fills, between what stays
+pub record Filled (old new part : Bytes) (at : ℕ) : Type 0 where
+  pub before : Bytes
+  pub after : Bytes
+  pub size : length before ≡ at
+  pub was : old ≡ before ++ (replicate (length part) 0 ++ after)
+  pub is : new ≡ before ++ (part ++ after)
+
+pub sets-filled : (es : List Entry) (e : Entry) → So (every (λ f. ltb (f .key) (e .key)) es) → e .key < rowLimit
+    → Filled (setsBytes es) (setsBytes (es ++ (e ∷ []))) (flagsOf (e .members)) (e .key * memberLimit)
+unfolding setsBytes chunks flagsOf
+sets-filled es e h l =
+    let m = rowLimit - suc (e .key) in
+    let q : rowLimit ≡ e .key + suc m = omega arith in
+    let (old, new) = members-new es e h in
+    let z : 0 + e .key ≡ e .key = zero-add (e .key) in
+    record {
+      before = chunks g (e .key) 0;
+      after = chunks g m (suc (0 + e .key));
+      size = chunks-length g (e .key) 0 (λ n. flags-length (membersAt es n));
+      was = ap (λ (n : ℕ). chunks g n 0) q ∙ chunks-split g (e .key) m 0 ∙ ap (λ (x : Bytes). chunks g (e .key) 0 ++ (x ++ chunks g m (suc (0 + e .key))))
+          (ap g z ∙ ap flagsOf old ∙ flags-none memberLimit 0 ∙ ap (λ (n : ℕ). replicate n 0) (sym (flags-length (e .members))));
+      is = ap (λ (n : ℕ). chunks k n 0) q ∙ chunks-split k (e .key) m 0 ∙ rw (
+        chunks-same k g (e .key) 0 (λ n a b. other n (λ d. omega arith)),
+        chunks-same k g m (suc (0 + e .key)) (λ n a b. other n (λ d. omega arith)),
+        z,
+        new,
+      );
+    }
+  where
+    g : ℕ → Bytes
+    g n = flagsOf (membersAt es n)
+
+    k : ℕ → Bytes
+    k n = flagsOf (membersAt (es ++ (e ∷ [])) n)
+
+    other : (n : ℕ) → n ≢ e .key → k n ≡ g n
+    other n d = ap flagsOf (members-other es e n d)
+
+-- ---- claims
+
+counting-split : (f : ℕ → ℕ) (k m i : ℕ) → counting (k + suc m) i f ≡ counting k i f ++ (f (i + k) ∷ counting m (suc (i + k)) f)
+unfolding counting
+counting-split f zero m i = rw (zero-add, add-zero)
+counting-split f (suc k) m i =
+    let e : suc k + suc m ≡ suc (k + suc m) = omega arith in
+    let q : suc i + k ≡ i + suc k = omega arith in
+    rw e (ap (λ (x : Bytes). f i ∷ x) (counting-split f k m (suc i)) ∙ rw q)
+
+counting-same : (f h : ℕ → ℕ) (k i : ℕ) → ((n : ℕ) → i ≤ n → n < i + k → f n ≡ h n) → counting k i f ≡ counting k i h
+unfolding counting
+counting-same f h zero i e = refl
+counting-same f h (suc k) i e = rw (e i (omega arith) (omega arith), counting-same f h k (suc i) (λ n l m. e n (omega arith) (omega arith)))
+
+claim-other : (cs : List Claim) (c : Claim) (n : ℕ) → n ≢ c .channel → claimCode (cs ++ (c ∷ [])) n ≡ claimCode cs n
+unfolding claimCode
+claim-other [] c n d = rw (ne-eqb n (c .channel) d, claimCode)
+claim-other (k ∷ cs) c n d = go (eqb n (k .channel)) (claim-other cs c n d)
+  where
+    go : (b : Bool) → claimCode (cs ++ (c ∷ [])) n ≡ claimCode cs n → _≡_ {A = ℕ} (elim b [ true ↦ wordCode (k .word) | false ↦ claimCode (cs ++ (c ∷ [])) n ]) (elim b [ true ↦ wordCode (k .word) | false ↦ claimCode cs n ])
+    go true h = refl
+    go false h = h
+
+claim-new : (cs : List Claim) (c : Claim) → So (every (λ k. ltb (k .channel) (c .channel)) cs) → (claimCode cs (c .channel) ≡ 0) × (claimCode (cs ++ (c ∷ [])) (c .channel) ≡ wordCode (c .word))
+unfolding claimCode every
+claim-new [] c h = (refl, rw (eq-eqb (c .channel) (c .channel) refl, claimCode))
+claim-new (k ∷ cs) c h =
+    let l = ltb-true (k .channel) (c .channel) (and-left (ltb (k .channel) (c .channel)) _ h) in
+    let (a, b) = claim-new cs c (and-right (ltb (k .channel) (c .channel)) _ h) in
+    let d : eqb (c .channel) (k .channel) ≡ false = ne-eqb (c .channel) (k .channel) (λ q. omega arith) in
+    (rw (d, claimCode) a, rw (d, claimCode) b)
+
+pub claims-filled : (cs : List Claim) (c : Claim) → So (every (λ k. ltb (k .channel) (c .channel)) cs) → c .channel < rowLimit
+    → Filled (counting rowLimit 0 (claimCode cs)) (counting rowLimit 0 (claimCode (cs ++ (c ∷ [])))) (wordCode (c .word) ∷ []) (c .channel)
+claims-filled cs c h l =
+    let m = rowLimit - suc (c .channel) in
+    let q : rowLimit ≡ c .channel + suc m = omega arith in
+    let (old, new) = claim-new cs c h in
+    let z : 0 + c .channel ≡ c .channel = zero-add (c .channel) in
+    let f = claimCode cs in
+    let g = claimCode (cs ++ (c ∷ [])) in
+    record {
+      before = counting (c .channel) 0 f;
+      after = counting m (suc (0 + c .channel)) f;
+      size = counting-length (c .channel) 0 f;
+      was = ap (λ (n : ℕ). counting n 0 f) q ∙ counting-split f (c .channel) m 0 ∙ rw (z, old);
+      is = ap (λ (n : ℕ). counting n 0 g) q ∙ counting-split g (c .channel) m 0 ∙ rw (
+        counting-same g f (c .channel) 0 (λ n a b. claim-other cs c n (λ d. omega arith)),
+        counting-same g f m (suc (0 + c .channel)) (λ n a b. claim-other cs c n (λ d. omega arith)),
+        z,
+        new,
+      );
+    }
+
+-- ---- rows
+
+collect-snoc : (xs : Program) (x : Row) → collect rowBytes (xs ++ (x ∷ [])) ≡ collect rowBytes xs ++ rowBytes x
+unfolding collect
+collect-snoc [] x = append-nil (rowBytes x)
+collect-snoc (y ∷ xs) x = ap (λ (l : Bytes). rowBytes y ++ l) (collect-snoc xs x) ∙ sym (append-assoc (rowBytes y) (collect rowBytes xs) (rowBytes x))
+
+pub rows-filled : (xs : Program) (x : Row) → length xs < rowLimit
+    → Filled (padded rowsSize (collect rowBytes xs)) (padded rowsSize (collect rowBytes (xs ++ (x ∷ [])))) (rowBytes x) (length xs * rowSize)
+unfolding padded
+rows-filled xs x l =
+    let b = collect rowBytes xs in
+    let n : length b ≡ length xs * rowSize = rows-length xs in
+    let s : length (rowBytes x) ≡ rowSize = row-size x in
+    let m = rowsSize - length b - rowSize in
+    let split : rowsSize - length b ≡ length (rowBytes x) + m = omega arith in
+    let rest : rowsSize - length (b ++ rowBytes x) ≡ m = omega (arith, length-append b (rowBytes x)) in
+    record {
+      before = b;
+      after = replicate m 0;
+      size = n;
+      was = ap (λ (l : Bytes). b ++ l) (ap (λ (n : ℕ). replicate n 0) split ∙ sym (replicate-append-replicate (length (rowBytes x)) m 0));
+      is = rw (collect-snoc xs x, rest, append-assoc b (rowBytes x) (replicate m 0));
+    }
+
+-- ---- the whole store
+
+pub filled-patch : {old new part : Bytes} {at : ℕ} (pre post : Bytes) → Filled old new part at → patch (length pre + at) part (pre ++ (old ++ post)) ≡ pre ++ (new ++ post)
+filled-patch {old} {new} {part} {at} pre post f =
+    let a : pre ++ (old ++ post) ≡ pre ++ f .before ++ (replicate (length part) 0 ++ (f .after ++ post)) =
+    rw (f .was, append-assoc (f .before) (replicate (length part) 0 ++ f .after) post, append-assoc (replicate (length part) 0) (f .after) post, append-assoc pre (f .before) (replicate (length part) 0 ++ (f .after ++ post))) in
+    let b : pre ++ f .before ++ (part ++ (f .after ++ post)) ≡ pre ++ (new ++ post) =
+    rw (f .is, append-assoc (f .before) (part ++ f .after) post, append-assoc part (f .after) post, append-assoc pre (f .before) (part ++ (f .after ++ post))) in
+    ap (patch (length pre + at) part) a
+    ∙ patch-middle (pre ++ f .before) (replicate (length part) 0) part (f .after ++ post) (length pre + at) (length-append pre (f .before) ∙ ap (λ (n : ℕ). length pre + n) (f .size)) (length-replicate (length part) 0)
+    ∙ b
+
+-- the part was 0
+pub filled-zero : {old new part : Bytes} {at : ℕ} (pre post : Bytes) → Filled old new part at → take (length part) (drop (length pre + at) (pre ++ (old ++ post))) ≡ replicate (length part) 0
+filled-zero {old} {new} {part} {at} pre post f =
+    let a : pre ++ (old ++ post) ≡ pre ++ f .before ++ (replicate (length part) 0 ++ (f .after ++ post)) =
+    rw (f .was, append-assoc (f .before) (replicate (length part) 0 ++ f .after) post, append-assoc (replicate (length part) 0) (f .after) post, append-assoc pre (f .before) (replicate (length part) 0 ++ (f .after ++ post))) in
+    rw (a, drop-at (pre ++ f .before) (replicate (length part) 0 ++ (f .after ++ post)) (length pre + at) (length-append pre (f .before) ∙ ap (λ (n : ℕ). length pre + n) (f .size)))
+    (take-at (replicate (length part) 0) (f .after ++ post) (length part) (length-replicate (length part) 0))
+
+-- where each part begins
+rows-part : (d : Document) → length (d .rows) ≤ rowLimit → length (padded rowsSize (collect rowBytes (d .rows))) ≡ rowsSize
+rows-part d l = rows-part-length rowLimit (d .rows) l
+
+-- a row more, where there is room for it
+pub add-row : (d : Document) (r : ℕ) (x : Row) → length (d .rows) < rowLimit → encode (add d (row r x)) ≡ patch (length (d .rows) * rowSize) (rowBytes x) (encode d)
+unfolding encode add
+add-row d r x l =
+    let e : length (d .rows) * rowSize ≡ length {A = ℕ} [] + length (d .rows) * rowSize = sym (zero-add (length (d .rows) * rowSize)) in
+    rw e (sym (filled-patch [] (setsBytes (d .flows) ++ (setsBytes (d .comms) ++ counting rowLimit 0 (claimCode (d .claims)))) (rows-filled (d .rows) x l)))
+
+module _ (d : Document) (fit : length (d .rows) ≤ rowLimit) where
+  -- a flow line more, whose name is above all that have one: its set was empty
+  pub add-flow : (e : Entry) → So (every (λ f. ltb (f .key) (e .key)) (d .flows)) → e .key < rowLimit
+      → (encode (add d (flow e)) ≡ patch (flowAt (e .key)) (flagsOf (e .members)) (encode d)) × (take memberLimit (drop (flowAt (e .key)) (encode d)) ≡ replicate memberLimit 0)
+  unfolding encode add
+  add-flow e h l =
+      let f = sets-filled (d .flows) e h l in
+      let pre = padded rowsSize (collect rowBytes (d .rows)) in
+      let post = setsBytes (d .comms) ++ counting rowLimit 0 (claimCode (d .claims)) in
+      let n : length pre ≡ rowsSize = rows-part d fit in
+      (rw n at (sym (filled-patch pre post f)), rw (n, flags-length (e .members)) at (filled-zero pre post f))
+
+  pub add-comm : (e : Entry) → So (every (λ f. ltb (f .key) (e .key)) (d .comms)) → e .key < rowLimit
+      → (encode (add d (comm e)) ≡ patch (commAt (e .key)) (flagsOf (e .members)) (encode d)) × (take memberLimit (drop (commAt (e .key)) (encode d)) ≡ replicate memberLimit 0)
+  unfolding encode add
+  add-comm e h l =
+      let f = sets-filled (d .comms) e h l in
+      let rows = padded rowsSize (collect rowBytes (d .rows)) in
+      let flows = setsBytes (d .flows) in
+      let post = counting rowLimit 0 (claimCode (d .claims)) in
+      let n : length (rows ++ flows) ≡ rowsSize + setsSize = length-append rows flows ∙ rw (rows-part d fit, sets-bytes-length (d .flows)) in (
+        rw (n, append-assoc rows flows (setsBytes (d .comms) ++ post), append-assoc rows flows (setsBytes (d .comms ++ (e ∷ [])) ++ post)) at (sym (filled-patch (rows ++ flows) post f)),
+        rw (n, flags-length (e .members), append-assoc rows flows (setsBytes (d .comms) ++ post)) at (filled-zero (rows ++ flows) post f),
+      )
+
+  pub add-claim : (c : Claim) → So (every (λ k. ltb (k .channel) (c .channel)) (d .claims)) → c .channel < rowLimit
+      → encode (add d (claim c)) ≡ patch (claimAt (c .channel)) (wordCode (c .word) ∷ []) (encode d)
+  unfolding encode add
+  add-claim c h l =
+      let f = claims-filled (d .claims) c h l in
+      let rows = padded rowsSize (collect rowBytes (d .rows)) in
+      let flows = setsBytes (d .flows) in
+      let comms = setsBytes (d .comms) in
+      let n : length (rows ++ (flows ++ comms)) ≡ rowsSize + setsSize + setsSize = length-append rows (flows ++ comms) ∙ rw (length-append flows comms, rows-part d fit, sets-bytes-length (d .flows), sets-bytes-length (d .comms)) in
+      let old : rows ++ (flows ++ comms) ++ (counting rowLimit 0 (claimCode (d .claims)) ++ []) ≡ rows ++ (flows ++ (comms ++ counting rowLimit 0 (claimCode (d .claims)))) =
+      rw (append-nil (counting rowLimit 0 (claimCode (d .claims))), append-assoc rows (flows ++ comms) (counting rowLimit 0 (claimCode (d .claims))), append-assoc flows comms (counting rowLimit 0 (claimCode (d .claims)))) in
+      let new : rows ++ (flows ++ comms) ++ (counting rowLimit 0 (claimCode (d .claims ++ (c ∷ []))) ++ []) ≡ rows ++ (flows ++ (comms ++ counting rowLimit 0 (claimCode (d .claims ++ (c ∷ []))))) =
+      rw (append-nil (counting rowLimit 0 (claimCode (d .claims ++ (c ∷ [])))), append-assoc rows (flows ++ comms) (counting rowLimit 0 (claimCode (d .claims ++ (c ∷ [])))), append-assoc flows comms (counting rowLimit 0 (claimCode (d .claims ++ (c ∷ []))))) in
+      sym (ap (λ (k : ℕ). patch (k + c .channel) (wordCode (c .word) ∷ []) (rows ++ (flows ++ (comms ++ counting rowLimit 0 (claimCode (d .claims)))))) (sym n)
+      ∙ ap (patch (length (rows ++ (flows ++ comms)) + c .channel) (wordCode (c .word) ∷ [])) (sym old) ∙ filled-patch (rows ++ (flows ++ comms)) [] f ∙ new)
+
+-- ---- nothing read: every byte is 0
+
+zeros : (z : Bytes) (n i : ℕ) → z ≡ replicate memberLimit 0 → chunks (λ k. z) n i ≡ replicate (n * memberLimit) 0
+unfolding chunks collect counting
+zeros z zero i e = refl
+zeros z (suc n) i e =
+    let q : suc n * memberLimit ≡ memberLimit + n * memberLimit = omega arith in
+    ap (λ (l : Bytes). z ++ l) (zeros z n (suc i) e) ∙ ap (λ (l : Bytes). l ++ replicate (n * memberLimit) 0) e ∙ replicate-append-replicate memberLimit (n * memberLimit) 0 ∙ ap (λ (k : ℕ). replicate k 0) (sym q)
+
+no-flags : flagsOf [] ≡ replicate memberLimit 0
+unfolding flagsOf
+no-flags = flags-none memberLimit 0
+
+no-sets : setsBytes [] ≡ replicate setsSize 0
+unfolding setsBytes chunks membersAt
+no-sets = zeros (flagsOf []) rowLimit 0 no-flags
+
+claims-none : (n i : ℕ) → counting n i (claimCode []) ≡ replicate n 0
+unfolding counting claimCode
+claims-none zero i = refl
+claims-none (suc n) i = ap (λ (l : Bytes). 0 ∷ l) (claims-none n (suc i))
+
+no-rows : padded rowsSize (collect rowBytes []) ≡ replicate rowsSize 0
+unfolding padded collect
+no-rows = refl
+
+pub encode-none : encode noLines ≡ replicate storeSize 0
+unfolding encode noLines
+encode-none =
+    rw (no-rows, no-sets, claims-none rowLimit 0)
+    (ap (λ (l : Bytes). replicate rowsSize 0 ++ (replicate setsSize 0 ++ l)) (replicate-append-replicate setsSize rowLimit 0)
+    ∙ ap (λ (l : Bytes). replicate rowsSize 0 ++ l) (replicate-append-replicate setsSize (setsSize + rowLimit) 0) ∙ replicate-append-replicate rowsSize (setsSize + (setsSize + rowLimit)) 0)
