@@ -1,0 +1,3 @@
+-- Laws about the definitions of specs/, and what the proofs of several functions share.
+pub mod Laws
+pub mod Fuel

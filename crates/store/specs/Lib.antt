@@ -1,0 +1,2 @@
+-- The rows of a store, by their numbers.
+pub mod Rows

@@ -1,0 +1,59 @@
+// The store of bytes that a file is loaded into: its layout, a new one, and its rows.
+ghost use mathlib.Core.Path.{_≡_};
+ghost use Prim.Native.Nat.{_≤_};
+ghost use mathlib.Core.List.{_++_};
+ghost use lib.ListN.{length, drop, replicate};
+ghost use Rattle.calls.specs.Layout.{storeSize};
+
+pub mod rows; // rows.rt: a row of the store, read and written
+pub mod scope; // scope.rt: uses out of scope, down the tree of rows
+
+pub use rows::put_row;
+pub use rows::row_at;
+pub use scope::NO_ROW;
+pub use scope::scope_fault;
+
+pub struct Store {
+    pub bytes: [u8; Store::SIZE],
+}
+
+impl Store {
+    // Rows and names are numbered below these.
+    pub const ROWS: usize = 160;
+
+    pub const NAMES: usize = Self::ROWS;
+    // The bytes that a file has at most.
+    pub const FILE_BYTES: usize = 32768;
+    // The bytes of a row, and the members of a set: unit and the rows.
+    pub const ROW_SIZE: usize = 8;
+
+    pub const MEMBERS: usize = Self::ROWS + 1;
+    // Where the parts after the rows begin: a set for each name, a set for each channel row, a claim for each row.
+    pub const FLOWS: usize = Self::ROWS * Self::ROW_SIZE;
+
+    pub const COMMS: usize = Self::FLOWS + Self::NAMES * Self::MEMBERS;
+
+    pub const CLAIMS: usize = Self::COMMS + Self::ROWS * Self::MEMBERS;
+
+    pub const SIZE: usize = Self::CLAIMS + Self::ROWS;
+
+    pub fn empty() -> Store
+        ensures { λ s. ⌜ s .bytes ≡ replicate storeSize 0 ⌝ }
+    {
+        Store {
+            bytes: [0; Self::SIZE],
+        }
+    }
+}
+
+// Sets the bytes of a store, at the head of a slice, to 0.
+pub fn clear(store: &mut [u8])
+    requires { ⌜ storeSize ≤ length (now store) ⌝ }
+    ensures { λ _. ⌜ now (store .exit) ≡ replicate storeSize 0 ++ drop storeSize (now (store .entry)) ⌝ }
+{
+    let mut i = 0;
+    while i < Store::SIZE {
+        store[i] = 0;
+        i += 1;
+    }
+}

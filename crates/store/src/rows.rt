@@ -1,0 +1,208 @@
+// The rows of a program in a store, eight bytes to a row: kind, name, rest and five arguments.
+use crate::Store;
+use program::Bind;
+use program::Form;
+use program::Row;
+ghost use mathlib.Core.Path.{_≡_};
+ghost use Prim.Native.Nat.{_+_, _*_, _≤_};
+ghost use lib.ListN.{length};
+ghost use lib.Seq.{sets};
+ghost use Rattle.format.specs.Forms.{formWith};
+ghost use Rattle.calls.specs.Layout.{rowSize, rowBytes, rowOf};
+ghost use Rattle.store.specs.Rows.{bytesOf, bytesOfTwo, cellsAt, storeRow};
+
+// The bytes of a row.
+pub struct Cells {
+    pub kind: u8,
+    pub name: u8,
+    pub rest: u8,
+    pub a: u8,
+    pub b: u8,
+    pub c: u8,
+    pub d: u8,
+    pub e: u8,
+}
+
+// The bytes of row r; past the store's end they are 0.
+fn cells_at(store: &[u8], r: u8) -> Cells
+    ensures { λ x. ⌜ x ≡ cellsAt (now (store .entry)) r ⌝ }
+{
+    let p = r as usize * Store::ROW_SIZE;
+    Cells {
+        kind: text::byte_at(store, p),
+        name: text::byte_at(store, p + 1),
+        rest: text::byte_at(store, p + 2),
+        a: text::byte_at(store, p + 3),
+        b: text::byte_at(store, p + 4),
+        c: text::byte_at(store, p + 5),
+        d: text::byte_at(store, p + 6),
+        e: text::byte_at(store, p + 7),
+    }
+}
+
+// The form of a kind, 2 to 15, with its arguments.
+fn form_of(x: Cells) -> Form
+    ensures { λ f. ⌜ f ≡ formWith (x .kind) (x .a) (x .b) (x .c) (x .d) (x .e) ⌝ }
+{
+    let kind = x.kind;
+    match kind {
+        2 => Form::Unit,
+        3 => Form::Chan,
+        4 => Form::Send {
+            channel: x.a,
+            message: x.b,
+        },
+        5 => Form::Recv { channel: x.a },
+        6 => Form::Pair {
+            first: x.a,
+            second: x.b,
+        },
+        7 => Form::Left { value: x.a },
+        8 => Form::Right { value: x.a },
+        9 => Form::Fun {
+            own: x.a,
+            parameter: x.b,
+            body: x.c,
+        },
+        10 => Form::Spawn { child: x.a },
+        11 => Form::Sync { event: x.a },
+        12 => Form::First { pair: x.a },
+        13 => Form::Second { pair: x.a },
+        14 => Form::Case {
+            subject: x.a,
+            left_name: x.b,
+            left: x.c,
+            right_name: x.d,
+            right: x.e,
+        },
+        _ => Form::Apply {
+            function: x.a,
+            argument: x.b,
+        },
+    }
+}
+
+// The row of its bytes. Kind 1 is a result.
+fn row_of(x: Cells) -> Row
+    ensures { λ y. ⌜ y ≡ rowOf (bytesOf x) ⌝ }
+{
+    if x.kind == 1 {
+        return Row::Result(x.name);
+    }
+    let form = form_of(x);
+    Row::Bind(Bind {
+        name: x.name,
+        form: form,
+        rest: x.rest,
+    })
+}
+
+// Row r. A kind above 15, and 0, which is no row, reads as an apply.
+pub fn row_at(store: &[u8], r: u8) -> Row
+    ensures { λ y. ⌜ y ≡ storeRow (now (store .entry)) r ⌝ }
+{
+    row_of(cells_at(store, r))
+}
+
+// The bytes of a bind with form f.
+fn cells_of_form(f: Form, name: u8, rest: u8) -> Cells
+    ensures { λ x. ⌜ bytesOf x ≡ rowBytes (Row.Bind (record { name = name; form = f; rest = rest })) ⌝ }
+{
+    match f {
+        Form::Unit => two(2, name, rest, 0, 0),
+        Form::Chan => two(3, name, rest, 0, 0),
+        Form::Send { channel, message } => two(4, name, rest, channel, message),
+        Form::Recv { channel } => two(5, name, rest, channel, 0),
+        Form::Pair { first, second } => two(6, name, rest, first, second),
+        Form::Left { value } => two(7, name, rest, value, 0),
+        Form::Right { value } => two(8, name, rest, value, 0),
+        Form::Fun {
+            own,
+            parameter,
+            body,
+        } => Cells {
+            kind: 9,
+            name: name,
+            rest: rest,
+            a: own,
+            b: parameter,
+            c: body,
+            d: 0,
+            e: 0,
+        },
+        Form::Spawn { child } => two(10, name, rest, child, 0),
+        Form::Sync { event } => two(11, name, rest, event, 0),
+        Form::First { pair } => two(12, name, rest, pair, 0),
+        Form::Second { pair } => two(13, name, rest, pair, 0),
+        Form::Case {
+            subject,
+            left_name,
+            left,
+            right_name,
+            right,
+        } => Cells {
+            kind: 14,
+            name: name,
+            rest: rest,
+            a: subject,
+            b: left_name,
+            c: left,
+            d: right_name,
+            e: right,
+        },
+        Form::Apply { function, argument } => two(15, name, rest, function, argument),
+    }
+}
+
+// The bytes of a row with at most two arguments.
+fn two(kind: u8, name: u8, rest: u8, a: u8, b: u8) -> Cells
+    ensures { λ x. ⌜ bytesOf x ≡ bytesOfTwo kind name rest a b ⌝ }
+{
+    Cells {
+        kind: kind,
+        name: name,
+        rest: rest,
+        a: a,
+        b: b,
+        c: 0,
+        d: 0,
+        e: 0,
+    }
+}
+
+// The bytes of a row.
+fn cells_of(row: Row) -> Cells
+    ensures { λ x. ⌜ bytesOf x ≡ rowBytes row ⌝ }
+{
+    match row {
+        Row::Result(n) => two(1, n, 0, 0, 0),
+        Row::Bind(b) => {
+            let form = b.form;
+            cells_of_form(form, b.name, b.rest)
+        }
+    }
+}
+
+// Writes the bytes of row r.
+fn put_cells(store: &mut [u8], r: u8, x: Cells)
+    requires { ⌜ r * rowSize + rowSize ≤ length (now store) ⌝ }
+    ensures { λ _. ⌜ now (store .exit) ≡ sets (now (store .entry)) (r * rowSize) (bytesOf x) ⌝ }
+{
+    let p = r as usize * Store::ROW_SIZE;
+    store[p] = x.kind;
+    store[p + 1] = x.name;
+    store[p + 2] = x.rest;
+    store[p + 3] = x.a;
+    store[p + 4] = x.b;
+    store[p + 5] = x.c;
+    store[p + 6] = x.d;
+    store[p + 7] = x.e;
+}
+
+// Writes row r.
+pub fn put_row(store: &mut [u8], r: u8, row: Row)
+    requires { ⌜ r * rowSize + rowSize ≤ length (now store) ⌝ }
+    ensures { λ _. ⌜ now (store .exit) ≡ sets (now (store .entry)) (r * rowSize) (rowBytes row) ⌝ }
+{
+    put_cells(store, r, cells_of(row));
+}
