@@ -1,7 +1,7 @@
 -- The proofs of the demands (Demands.antt) from the theorems about files, the store, judge and runs.
 use Prim.Native.Nat.{ℕ, _≤_, _<_}
 use mathlib.Core.Bool.{Bool, true, false, So, false≢true}
-use mathlib.Core.List.{List, [], _∷_, _++_}
+use mathlib.Core.List.{List, [], _∷_, _++_, map}
 use mathlib.Core.Option.{Option, none, some}
 use mathlib.Core.Path.{_≡_, refl, sym, ap, _∙_, subst}
 use mathlib.Core.Logic.{_↔_}
@@ -11,13 +11,13 @@ use lib.Seq.{take-at, drop-at}
 use lib.Dec.{ltb}
 use borrow.Author.Tests.{lt-ltb, le-ltb, ltb-false, ltb-true}
 use Rattle.program.specs.Each.{Member}
-use Rattle.program.specs.Program.{chanAt}
+use Rattle.program.specs.Program.{chanAt, chanRow}
 use Rattle.program.specs.FlowRule.{KeepsAll}
 use Rattle.program.specs.Run.{Path, made, Step, run}
 use Rattle.program.specs.History.{HistoryFits}
 use Rattle.program.proofs.Each.{Each, each-at}
 use Rattle.program.proofs.FlowRule.{keeps-iff}
-use Rattle.program.proofs.Test.{and-left}
+use Rattle.program.proofs.Test.{and-left, none-least}
 use Rattle.program.proofs.Sound.Histories.{claims-hold}
 use Rattle.format.specs.declared.Reason.the-variants.{StoreTooShort, StoreEmpty, StoreUnsound, OutputTooShort}
 use Rattle.format.specs.declared.Refusal.{Refusal}
@@ -33,11 +33,13 @@ use Rattle.calls.specs.declared.Counts.{Counts}
 use Rattle.calls.specs.declared.LoadAnswer.{LoadAnswer}
 use Rattle.calls.specs.declared.JudgeAnswer.{JudgeAnswer}
 use Rattle.calls.specs.declared.WriteAnswer.{WriteAnswer}
+use Rattle.calls.specs.declared.VerdictStatus.{VerdictStatus}
+use Rattle.calls.specs.declared.VerdictAnswer.{VerdictAnswer}
 use Rattle.calls.specs.Layout.{storeSize, encode, decode, same}
-use Rattle.calls.specs.Judging.{flowTable, commTable, WordHolds, judgeDocument}
-use Rattle.calls.specs.Calls.{Outcome, unsound, isEmpty, openedFixed, opened, counts, refilled, loaded, load, judgeAnswered, andThen, judge, written, write}
+use Rattle.calls.specs.Judging.{verdictWords, flowTable, commTable, wordHolds, WordHolds, reaches, failingRow, after10, judgeDocument, verdictDocument}
+use Rattle.calls.specs.Calls.{Outcome, unsound, isEmpty, openedFixed, opened, counts, refilled, loaded, load, judgeAnswered, andThen, judge, verdictOf, verdictGiven, verdict, written, write}
 use Rattle.calls.proofs.Codec.{encode-length, decode-encode, unsound-iff, opened-encode}
-use Rattle.calls.proofs.Judging.{rows-well, ClaimHolds, accepts-iff}
+use Rattle.calls.proofs.Judging.{rows-well, row-iff, ClaimHolds, accepts-iff, RowKeeps}
 
 -- ---- a store that is long enough
 
@@ -230,10 +232,20 @@ judge-accepts store d e n =
     let (there, back) = accepts-iff d (opened-is store d e .well) n in
     (λ h. there (judged-iff (judgeDocument d) n .0 (sym j ∙ h)), λ h. j ∙ judged-iff (judgeDocument d) n .1 (back h))
 
+-- ---- verdict
+
+pub verdict-words : (store : Bytes) (d : Document) (c : ℕ) → opened store ≡ accepted d → So (chanRow (d .rows) c) → KeepsAll (d .rows) (flowTable d) (commTable d)
+    → verdict store c ≡ record { status = VerdictStatus.Given; words = map (wordHolds d (reaches d) c) verdictWords }
+unfolding verdict andThen verdictOf verdictGiven verdictDocument after10 RowKeeps
+verdict-words store d c e chan keeps = rw (e, chan, verdictOf, no-row, after10)
+  where
+    no-row : failingRow d ≡ none
+    no-row = unfold failingRow in none-least (length (d .rows)) _ (λ r l. rw (row-iff d r .1 (λ b q. unfold KeepsAll in keeps r b q)))
+
 -- ---- every run
 
 pub sound : (file store : Bytes) (c : Counts) (n : ℕ) → load file store .answer ≡ LoadAnswer.Loaded c → judge (load file store .bytes) ≡ JudgeAnswer.Accepted n
-    → (d : Document) × (file ≡ documentText d)
+    → (d : Document) × (file ≡ documentText d) × So (wellFormed d)
     × ((k : Claim) → Member k (d .claims) → (name : ℕ) → chanAt (d .rows) (k .channel) ≡ some name
     → (steps : List Step) (maker : Path) → HistoryFits (d .rows) (run (d .rows) steps) (made maker name) (k .word))
 unfolding WordHolds
@@ -243,6 +255,7 @@ sound file store c n e a =
     let (keeps, claims, _) = judge-accepts (encode d ++ drop storeSize store) d o n .0 (ap judge (sym m) ∙ a) in (
       d,
       q,
+      w,
       λ x member name chan steps maker.
           claims-hold (d .rows) (flowTable d) (commTable d) (rows-well d w .0) (keeps-iff (d .rows) (flowTable d) (commTable d) .1 keeps) (x .word) name (x .channel) chan (each-at claims member) steps maker,
     )

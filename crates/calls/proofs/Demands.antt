@@ -1,13 +1,14 @@
 -- The demands, as theorems about the definitions of the calls. Their proofs stand in `Calls` beside this file; here is what they say.
 use Prim.Native.Nat.{ℕ, _≤_, _<_}
 use mathlib.Core.Bool.{Bool, true, false, So}
-use mathlib.Core.List.{List, _++_}
+use mathlib.Core.List.{List, _++_, map}
 use mathlib.Core.Option.{some}
 use mathlib.Core.Path.{_≡_}
 use mathlib.Core.Logic.{_↔_}
 use lib.ListN.{length, take, drop, replicate}
 use Rattle.program.specs.Each.{Member}
-use Rattle.program.specs.Program.{chanAt}
+use Rattle.program.specs.declared.Word.{Word}
+use Rattle.program.specs.Program.{chanAt, chanRow}
 use Rattle.program.specs.FlowRule.{KeepsAll}
 use Rattle.program.specs.Run.{Path, made, Step, run}
 use Rattle.program.specs.History.{HistoryFits}
@@ -24,9 +25,12 @@ use Rattle.calls.specs.declared.Counts.{Counts}
 use Rattle.calls.specs.declared.LoadAnswer.{LoadAnswer}
 use Rattle.calls.specs.declared.JudgeAnswer.{JudgeAnswer}
 use Rattle.calls.specs.declared.WriteAnswer.{WriteAnswer}
+use Rattle.calls.specs.declared.VerdictStatus.{VerdictStatus}
+use Rattle.calls.specs.declared.VerdictAnswer.{VerdictAnswer}
 use Rattle.calls.specs.Layout.{storeSize, encode}
-use Rattle.calls.specs.Judging.{flowTable, commTable, WordHolds}
-use Rattle.calls.specs.Calls.{load, judge, write, counts, opened, unsound}
+use Rattle.calls.specs.Judging.{verdictWords, flowTable, commTable, wordHolds, WordHolds, reaches}
+use Rattle.calls.specs.Calls.{load, judge, verdict, write, counts, opened, unsound}
+use Rattle.calls.proofs.Judging.{word-iff}
 use Rattle.calls.proofs.Calls as the
 
 -- Demand 1: "a load refused for its file leaves the store empty, and every other refused call alters no lent byte"
@@ -67,9 +71,17 @@ pub judge-accepts : (store : Bytes) (d : Document) → opened store ≡ accepted
     → (judge store ≡ JudgeAnswer.Accepted n) ↔ (KeepsAll (d .rows) (flowTable d) (commTable d) × Each (λ (k : Claim). WordHolds d (k .channel) (k .word)) (d .claims) × (n ≡ length (d .claims)))
 judge-accepts = the.judge-accepts
 
+-- a verdict's words, where the tables keep the flow rules; and each is yes exactly if the word holds over all pairs of walks that can share a run
+pub verdict-words : (store : Bytes) (d : Document) (c : ℕ) → opened store ≡ accepted d → So (chanRow (d .rows) c) → KeepsAll (d .rows) (flowTable d) (commTable d)
+    → verdict store c ≡ record { status = VerdictStatus.Given; words = map (wordHolds d (reaches d) c) verdictWords }
+verdict-words = the.verdict-words
+
+pub word-exact : (d : Document) → So (wellFormed d) → (c : ℕ) (word : Word) → So (wordHolds d (reaches d) c word) ↔ WordHolds d c word
+word-exact = word-iff
+
 -- Demand 3: where load took the file and judge accepted the store as load left it, then after every list of steps the history of every instance of a claimed channel fits the claimed word
 pub sound : (file store : Bytes) (c : Counts) (n : ℕ) → load file store .answer ≡ LoadAnswer.Loaded c → judge (load file store .bytes) ≡ JudgeAnswer.Accepted n
-    → (d : Document) × (file ≡ documentText d)
+    → (d : Document) × (file ≡ documentText d) × So (wellFormed d)
     × ((k : Claim) → Member k (d .claims) → (name : ℕ) → chanAt (d .rows) (k .channel) ≡ some name
     → (steps : List Step) (maker : Path) → HistoryFits (d .rows) (run (d .rows) steps) (made maker name) (k .word))
 sound = the.sound

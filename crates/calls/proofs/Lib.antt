@@ -1,5 +1,6 @@
 -- Theorems about the definitions of specs/.
 pub mod Codec
+pub mod Canonical
 pub mod Judging
 pub mod Calls
 pub mod Demands

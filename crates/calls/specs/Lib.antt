@@ -3,3 +3,4 @@ pub mod Layout
 pub mod Answers
 pub mod Judging
 pub mod Calls
+pub mod Canonical

@@ -1,4 +1,4 @@
--- Files that load turns back, by computation: each refusal from 2 to 9, at the places where one comes before another.
+-- Files that load turns back, by computation: each refusal from 1 to 9, at the places where one comes before another.
 use Prim.Native.Nat.{ℕ}
 use Prim.Native.String.{String}
 use mathlib.Core.Bool.{Bool, true, false, not}
