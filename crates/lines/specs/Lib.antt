@@ -1,0 +1,3 @@
+-- What the answers of this crate say, in the terms of the format's definitions.
+pub mod Reads
+pub mod Sets
