@@ -1,0 +1,80 @@
+-- `put_flags` meets its contract: after i turns the first i bytes from base on are those of the flags, and the others are as they were.
+use borrow.Author.Needs.{needs}
+use Prim.Native.Nat.{ℕ, _≤_, _<_, _-_, _+_}
+use native.Mathlib.Numerals.{add-one}
+use mathlib.Core.List.{List, append-assoc}
+use mathlib.Core.Path.{_≡_, refl, sym, ap, _∙_}
+use native.Mathlib.Omega.{arith}
+use denote.Ref.{now}
+use lib.ListN.{length, take, drop, set, getD, length-set}
+use lib.Seq.{paste, paste-zero, paste-suc, take-all}
+use Rattle.loading.specs.Progress.{patched}
+use Rattle.loading.proofs.put_flags.Statement.{statement}
+use Rattle.loading.proofs.put_flags.Tie as tie
+use Rattle.loading.proofs.put_flags.Reads as reads
+use Rattle.loading.proofs.put_flags.Lts as lts
+
+abbrev Inv-loop : tie.InvT-loop
+Inv-loop store₀ base flags i₀ store i =
+    (i ≤ length flags) × (length store ≡ length store₀) × (store ≡ paste store₀ base flags i)
+
+abbrev μ-loop : tie.MeasureT-loop
+μ-loop store₀ base flags i₀ store i = length flags - i
+
+one-more : (s d : List ℕ) (at : ℕ) (f : List ℕ) (i : ℕ) → s ≡ paste d at f i → at + i < length d → i < length f → set s (at + i) (getD f i 0) ≡ paste d at f (i + 1)
+one-more s d at f i e h l = rw (e, add-one) (paste-suc d at f i 0 h l)
+
+whole : (s d : List ℕ) (at : ℕ) (f : List ℕ) (i : ℕ) → s ≡ paste d at f i → i ≡ length f → s ≡ patched at f d
+whole s d at f i e q = e ∙ rw q (rw (take-all (length f) f (omega arith)) (append-assoc (take at d) f (drop (at + length f) d)))
+
+-- src/lib.rt:31:5
+loop-holds : tie.Need-loop-holds Inv-loop μ-loop
+loop-holds c = (omega arith, refl, paste-zero (c .args .store .now) (c .args .base) (c .args .flags .now))
+
+-- src/lib.rt:32:18
+add-at : tie.Need-add-at Inv-loop μ-loop
+add-at c = search needs
+
+-- src/lib.rt:33:21
+shared-slice-read-store : tie.Need-shared-slice-read-store Inv-loop μ-loop
+shared-slice-read-store c = search needs
+
+-- src/lib.rt:33:9
+slice-write-store : tie.Need-slice-write-store Inv-loop μ-loop
+slice-write-store c = search needs
+
+-- src/lib.rt:34:9
+add-i : tie.Need-add-i Inv-loop μ-loop
+add-i c = search needs
+
+-- src/lib.rt:31:5
+loop-less : tie.Need-loop-less Inv-loop μ-loop
+loop-less c = search needs
+
+-- src/lib.rt:31:5
+loop-again : tie.Need-loop-again Inv-loop μ-loop
+loop-again c = (omega arith, simp length-set (c .before .before .loop .inv .1), one-more (c .before .before .loop .store) (c .before .before .before .args .store .now) (c .before .before .before .args .base) (c .before .before .before .args .flags .now) (c .before .before .loop .i) (c .before .before .loop .inv .2) (omega arith) (omega arith))
+
+-- src/lib.rt:26:1
+same-length : tie.Need-same-length Inv-loop μ-loop
+same-length c = search needs
+
+-- src/lib.rt:26:1
+returns : tie.Need-returns Inv-loop μ-loop
+returns c = let e : c .before .loop .i ≡ length (c .before .before .args .flags .now) = omega arith in whole (c .before .loop .store) (c .before .before .args .store .now) (c .before .before .args .base) (c .before .before .args .flags .now) (c .before .loop .i) (c .before .loop .inv .2) e
+
+pub put-flags-spec : {M : Type 1} → statement M
+put-flags-spec =
+    tie.close
+    (tie.spec
+    Inv-loop
+    μ-loop
+    loop-holds
+    add-at
+    shared-slice-read-store
+    slice-write-store
+    add-i
+    loop-less
+    loop-again
+    same-length
+    returns)
