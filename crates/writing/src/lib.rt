@@ -1,0 +1,55 @@
+// The text of the document in a store, written into a slice at a position. What does not fit the slice is not written, and counts all the same.
+use claims::put_claims;
+use rows::put_rows;
+use sets::put_sets;
+use store::Store;
+ghost use mathlib.Core.Path.{_≡_};
+ghost use Prim.Native.Nat.{_≤_};
+ghost use lib.ListN.{length, take};
+ghost use Rattle.format.specs.Print.{documentText};
+ghost use Rattle.calls.specs.Layout.{storeSize};
+ghost use Rattle.text.specs.Write.{Room, Wrote};
+ghost use Rattle.writing.specs.Texts.{headText, storedDocument};
+
+mod claims; // claims.rt: claim lines
+mod rows; // rows.rt: forms, rows and their lines
+mod sets; // sets.rt: sets and their lines
+
+// Writes how a line begins: a word, a number and the space behind it.
+fn put_head(out: &mut [u8], at: usize, word: &[u8], n: u16) -> usize
+    requires { ⌜ Room at (headText (now word) n) ⌝ }
+    ensures { λ r. ⌜ Wrote (now (out .entry)) at (headText (now (word .entry)) n) r (now (out .exit)) ⌝ }
+{
+    let p = text::put_word(out, at, word);
+    let q = text::put_argument(out, p, n);
+    text::put_byte(out, q, 32)
+}
+
+// Writes the document of the bytes of a store with so many rows.
+fn put_store(out: &mut [u8], store: &[u8], rows: u8) -> usize
+    requires { ⌜ length (now store) ≡ storeSize ⌝ }
+    ensures { λ r. ⌜ Wrote (now (out .entry)) 0 (documentText (storedDocument rows (now (store .entry)))) r (now (out .exit)) ⌝ }
+{
+    let a = text::put_word(out, 0, b"[dispenser 1]\n");
+    let b = put_rows(out, a, store, rows);
+    let c = put_sets(out, b, b"[flow", &store[Store::FLOWS..]);
+    let d = put_sets(out, c, b"[comm", &store[Store::COMMS..]);
+    put_claims(out, d, &store[Store::CLAIMS..])
+}
+
+// Writes the document of the store at the head of a slice, with so many rows, and returns the length of its text.
+pub fn put_document(out: &mut [u8], store: &[u8], rows: u8) -> usize
+    requires { ⌜ storeSize ≤ length (now store) ⌝ }
+    ensures { λ r. ⌜ Wrote (now (out .entry)) 0 (documentText (storedDocument rows (take storeSize (now (store .entry))))) r (now (out .exit)) ⌝ }
+{
+    put_store(out, &store[..Store::SIZE], rows)
+}
+
+// The length of that text: what writing it into no bytes at all passes.
+pub fn document_length(store: &[u8], rows: u8) -> usize
+    requires { ⌜ storeSize ≤ length (now store) ⌝ }
+    ensures { λ n. ⌜ n ≡ length (documentText (storedDocument rows (take storeSize (now (store .entry))))) ⌝ }
+{
+    let mut none = [0u8; 0];
+    put_document(&mut none, store, rows)
+}
