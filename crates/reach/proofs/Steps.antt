@@ -1,0 +1,247 @@
+-- The row steps that the rows give are the edges.
+use Prim.Native.Nat.{ℕ}
+use mathlib.Core.Bool.{Bool, true, false, _&&_, _||_, So, or-false, false≢true}
+use mathlib.Core.Option.{some}
+use mathlib.Core.Path.{_≡_, refl, sym, ap, _∙_, fun-ext}
+use mathlib.Core.Logic.{⊎-elim}
+use lib.ListN.{length}
+use lib.Dec.{eqb}
+use borrow.Author.Tests.{eqb-true, eq-eqb}
+use Rattle.program.specs.declared.Row.{Row}
+use Rattle.program.specs.declared.Bind.{Bind}
+use Rattle.program.specs.declared.Form.{Form}
+use Rattle.program.specs.declared.Form.the-variants.{Chan, Send, Recv, Pair, Left, Right, Fun, Spawn, Sync, First, Second, Case, Apply}
+use Rattle.program.specs.Test.{any}
+use Rattle.program.specs.Maybe.{_>>=_, has}
+use Rattle.program.specs.Program.{Program, rowAt, bindOf, bindAt, formAt, caseOf, applyOf, spawnOf, funOf, funAt, forkAt, resultRow}
+use Rattle.program.specs.Flow.{Table, row}
+use Rattle.program.specs.Walk.{plain, someCalled, toRest, toChild, toCalled, toCaller, edge}
+use Rattle.program.proofs.Test.{and-left, and-right, and-intro, or-left, or-right, or-cases, any-intro, any-elim}
+use Rattle.program.proofs.Maybe.{has-elim, has-intro, bind-elim}
+use Rattle.program.proofs.Sound.Shape.{bind-bound, row-of}
+use Rattle.program.proofs.Sound.Edges.{form-at, Calls, edge-rest, edge-child, edge-call, edge-return}
+use Rattle.format.specs.Text.{Bytes}
+use Rattle.store.specs.Rows.{storeProgram}
+use Rattle.store.proofs.Laws.{program-length}
+use Rattle.reach.specs.Grid.{Told}
+use Rattle.reach.specs.Edges.{kindOf, kindOfRow, kindAt, step, callSteps, kindCalled, bodySteps, anyBody, kindSteps, rowSteps, anyRow}
+use Rattle.reach.proofs.Marks.{told-as}
+
+same-test : (a b : Bool) → (So a → So b) → (So b → So a) → a ≡ b
+same-test true b f g = sym (f refl)
+same-test false true f g = g refl
+same-test false false f g = refl
+
+module _ (p : Program) (flow : Table) where
+  -- ---- the steps of a kind are those of its row
+
+  fun-called : (q rest r s rest′ : ℕ) (f : Form) → kindCalled p q rest (kindOf rest′ f) r s ≡ has (funOf f) (λ (h, x, t). callSteps q rest t (resultRow p t) r s)
+  unfolding kindCalled has
+  fun-called q rest r s rest′ Form.Unit = refl
+  fun-called q rest r s rest′ Chan = refl
+  fun-called q rest r s rest′ (Send c m) = refl
+  fun-called q rest r s rest′ (Recv c) = refl
+  fun-called q rest r s rest′ (Pair a b) = refl
+  fun-called q rest r s rest′ (Left a) = refl
+  fun-called q rest r s rest′ (Right a) = refl
+  fun-called q rest r s rest′ (Fun f x t) = refl
+  fun-called q rest r s rest′ (Spawn t) = refl
+  fun-called q rest r s rest′ (Sync e) = refl
+  fun-called q rest r s rest′ (First a) = refl
+  fun-called q rest r s rest′ (Second a) = refl
+  fun-called q rest r s rest′ (Case k x t y w) = refl
+  fun-called q rest r s rest′ (Apply f a) = refl
+
+  row-called : (q rest r s : ℕ) (x : Row)
+      → kindCalled p q rest (kindOfRow x) r s ≡ has (bindOf x >>= (λ b. some (b .form)) >>= funOf) (λ (h, x, t). callSteps q rest t (resultRow p t) r s)
+  unfolding kindCalled kindOfRow bindOf _>>=_ has
+  row-called q rest r s (Row.Result n) = refl
+  row-called q rest r s (Row.Bind b) = fun-called q rest r s (b .rest) (b .form)
+
+  body-called : (q rest r s k : ℕ) → kindCalled p q rest (kindAt p k) r s ≡ has (funAt p k) (λ (h, x, t). callSteps q rest t (resultRow p t) r s)
+  unfolding kindAt funAt formAt bindAt
+  body-called q rest r s k = row-called q rest r s (rowAt p k)
+
+  -- what a form calls
+  formCalled : Form → (ℕ → Bool) → Bool
+  formCalled k f =
+      has (caseOf k) (λ (s, x, t, y, w). f t || f w) ||
+      has (applyOf k) (λ (g, a). any (length p) λ s. flow g (row s) && has (funAt p s) (λ (h, x, t). f t))
+
+  -- a step to the rest, a step to a child, and calls
+  formSteps : ℕ → ℕ → Form → ℕ → ℕ → Bool
+  formSteps q rest f r s =
+      (plain f && step q rest r s) ||
+      (has (spawnOf f) (λ t. step q t r s) || formCalled f (λ t. callSteps q rest t (resultRow p t) r s))
+
+  form-steps : (q rest r s : ℕ) (f : Form) → kindSteps p flow q (kindOf rest f) r s ≡ formSteps q rest f r s
+  unfolding kindSteps formSteps formCalled has anyBody bodySteps
+  form-steps q rest r s Form.Unit = sym (or-false (step q rest r s))
+  form-steps q rest r s Chan = sym (or-false (step q rest r s))
+  form-steps q rest r s (Send c m) = sym (or-false (step q rest r s))
+  form-steps q rest r s (Recv c) = sym (or-false (step q rest r s))
+  form-steps q rest r s (Pair a b) = sym (or-false (step q rest r s))
+  form-steps q rest r s (Left a) = sym (or-false (step q rest r s))
+  form-steps q rest r s (Right a) = sym (or-false (step q rest r s))
+  form-steps q rest r s (Fun f x t) = sym (or-false (step q rest r s))
+  form-steps q rest r s (Spawn t) = rw (or-false (step q t r s))
+  form-steps q rest r s (Sync e) = sym (or-false (step q rest r s))
+  form-steps q rest r s (First a) = sym (or-false (step q rest r s))
+  form-steps q rest r s (Second a) = sym (or-false (step q rest r s))
+  form-steps q rest r s (Case k x t y w) = sym (or-false _)
+  form-steps q rest r s (Apply f a) = ap (any (length p)) (fun-ext λ k. rw (body-called q rest r s k))
+
+  row-steps : (q r s : ℕ) (b : Bind) → bindAt p q ≡ some b → rowSteps p flow q r s ≡ formSteps q (b .rest) (b .form) r s
+  unfolding rowSteps kindAt kindOfRow
+  row-steps q r s b e = rw (row-of p q b e) (form-steps q (b .rest) r s (b .form))
+
+  -- a row that is no bind gives nothing
+  bind-gives : (q r s : ℕ) (x : Row) → So (kindSteps p flow q (kindOfRow x) r s) → (b : Bind) × (bindOf x ≡ some b)
+  unfolding kindSteps kindOfRow bindOf
+  bind-gives q r s (Row.Result n) h = absurd (false≢true h)
+  bind-gives q r s (Row.Bind b) h = (b, refl)
+
+  row-gives : (q r s : ℕ) → So (rowSteps p flow q r s) → (b : Bind) × (bindAt p q ≡ some b)
+  unfolding rowSteps kindAt bindAt
+  row-gives q r s h = bind-gives q r s (rowAt p q) h
+
+  -- ---- calls
+
+  called : (q : ℕ) (f : ℕ → Bool) → So (someCalled p flow q f) → (t : ℕ) × So (f t) × Calls p flow q t
+  unfolding someCalled
+  called q f h =
+      let (k, e, i) = has-elim _ (formAt p q) h in
+      ⊎-elim (branch k e) (apply k e) (or-cases _ _ i)
+    where
+      branch : (k : Form) → formAt p q ≡ some k → So (has (caseOf k) (λ (s, x, t, y, w). f t || f w)) → (t : ℕ) × So (f t) × Calls p flow q t
+      branch k e i =
+          let ((s, x, t, y, w), c, j) = has-elim _ (caseOf k) i in
+          ⊎-elim
+          (λ a. (t, a, λ g b. has-intro _ e (or-left _ (has-intro _ c (or-left _ b)))))
+          (λ a. (w, a, λ g b. has-intro _ e (or-left _ (has-intro _ c (or-right (g t) b)))))
+          (or-cases (f t) (f w) j)
+
+      apply : (k : Form) → formAt p q ≡ some k → So (has (applyOf k) (λ (g, a). any (length p) λ s. flow g (row s) && has (funAt p s) (λ (h, x, t). f t)))
+          → (t : ℕ) × So (f t) × Calls p flow q t
+      apply k e i =
+          let ((g, a), c, j) = has-elim _ (applyOf k) i in
+          let (s, l, m) = any-elim (length p) _ j in
+          let body : So (has (funAt p s) (λ (h, x, t). f t)) = search and-right in
+          let there : So (flow g (row s)) = search and-left in
+          let ((h, x, t), d, n) = has-elim _ (funAt p s) body in
+          (t, n, λ g′ b. has-intro _ e (or-right (has (caseOf k) (λ (s, x, t, y, w). g′ t || g′ w)) (has-intro _ c (any-intro _ s l (and-intro there (has-intro _ d b))))))
+
+  -- a row that calls is a bind
+  call-bind : (q : ℕ) (f : ℕ → Bool) → So (someCalled p flow q f) → (b : Bind) × (bindAt p q ≡ some b)
+  unfolding someCalled formAt
+  call-bind q f h =
+      let (k, e, i) = has-elim _ (formAt p q) h in
+      let (b, d, c) = bind-elim (bindAt p q) _ e in
+      (b, d)
+
+  module _ (q : ℕ) (b : Bind) (at : bindAt p q ≡ some b) where
+    calls-form : (f : ℕ → Bool) → someCalled p flow q f ≡ formCalled (b .form) f
+    unfolding someCalled formCalled has
+    calls-form f = rw (form-at p q b (b .form) at refl, has)
+
+    call-gives : (t r s : ℕ) → Calls p flow q t → So (callSteps q (b .rest) t (resultRow p t) r s) → So (rowSteps p flow q r s)
+    unfolding formSteps
+    call-gives t r s calls h =
+        rw (row-steps q r s b at)
+        (or-right (plain (b .form) && step q (b .rest) r s)
+        (or-right (has (spawnOf (b .form)) (λ t. step q t r s)) (rw calls-form at (calls (λ t. callSteps q (b .rest) t (resultRow p t) r s) h))))
+
+  fork : (q t : ℕ) (b : Bind) → bindAt p q ≡ some b → spawnOf (b .form) ≡ some t → forkAt p q ≡ some (t, b .rest)
+  unfolding forkAt _>>=_
+  fork q t b at c = rw (at, c)
+
+  -- ---- the same step
+
+  step-elim : (a b r s : ℕ) → So (step a b r s) → (r ≡ a) × (s ≡ b)
+  unfolding step
+  step-elim a b r s h = (eqb-true r a (and-left _ (eqb s b) h), eqb-true s b (and-right (eqb r a) _ h))
+
+  step-intro : {a b r s : ℕ} → r ≡ a → s ≡ b → So (step a b r s)
+  unfolding step
+  step-intro {a} {b} {r} {s} e d = and-intro (eq-eqb r a e) (eq-eqb s b d)
+
+  -- ---- what a row gives is an edge
+
+  given : (q r s : ℕ) → So (rowSteps p flow q r s) → So (edge p flow r s)
+  unfolding formSteps callSteps
+  given q r s h =
+      let (b, at) = row-gives q r s h in
+      ⊎-elim (rest b at) (λ i. ⊎-elim (child b at) (call b at) (or-cases _ _ i)) (or-cases _ _ (rw (row-steps q r s b at) at h))
+    where
+      here : (a b : ℕ) → So (edge p flow a b) → So (step a b r s) → So (edge p flow r s)
+      here a b e i = let (m, n) = step-elim a b r s i in rw (m, n) e
+
+      rest : (b : Bind) → bindAt p q ≡ some b → So (plain (b .form) && step q (b .rest) r s) → So (edge p flow r s)
+      rest b at i = here q (b .rest) (edge-rest p flow q b at (and-left _ (step q (b .rest) r s) i)) (and-right (plain (b .form)) _ i)
+
+      child : (b : Bind) → bindAt p q ≡ some b → So (has (spawnOf (b .form)) (λ t. step q t r s)) → So (edge p flow r s)
+      child b at i = let (t, c, j) = has-elim _ (spawnOf (b .form)) i in here q t (edge-child p flow q t (b .rest) (fork q t b at c)) j
+
+      call : (b : Bind) → bindAt p q ≡ some b → So (formCalled (b .form) (λ t. callSteps q (b .rest) t (resultRow p t) r s)) → So (edge p flow r s)
+      call b at i =
+          let (t, j, calls) = called q _ (rw (← (calls-form q b at (λ t. callSteps q (b .rest) t (resultRow p t) r s))) at i) in
+          ⊎-elim (here q t (edge-call p flow q t calls)) (here (resultRow p t) (b .rest) (edge-return p flow q t b at calls)) (or-cases _ _ j)
+
+  -- ---- and an edge is given by a row
+
+  taken : (r s : ℕ) → So (edge p flow r s) → So (anyRow p flow (length p) r s)
+  unfolding edge toRest toChild toCalled toCaller anyRow formSteps callSteps forkAt
+  taken r s h =
+      ⊎-elim (λ i. ⊎-elim (λ j. ⊎-elim rest child (or-cases _ _ j)) call (or-cases _ _ i)) back (or-cases _ _ h)
+    where
+      by : (q : ℕ) (b : Bind) → bindAt p q ≡ some b → So (rowSteps p flow q r s) → So (any (length p) λ q. rowSteps p flow q r s)
+      by q b at i = any-intro (λ q. rowSteps p flow q r s) q (bind-bound p q b at) i
+
+      rest : So (has (bindAt p r) (λ b. plain (b .form) && eqb s (b .rest))) → So (any (length p) λ q. rowSteps p flow q r s)
+      rest i =
+          let (b, at, j) = has-elim _ (bindAt p r) i in
+          let e : s ≡ b .rest = eqb-true s (b .rest) (and-right (plain (b .form)) _ j) in
+          let flat : So (plain (b .form)) = and-left _ (eqb s (b .rest)) j in
+          let there : So (plain (b .form) && step r (b .rest) r s) = and-intro flat (step-intro refl e) in
+          by r b at (rw (row-steps r r s b at) (or-left _ there))
+
+      child : So (has (forkAt p r) (λ (t, rest). eqb s t)) → So (any (length p) λ q. rowSteps p flow q r s)
+      child i =
+          let ((t, rest), e, j) = has-elim _ (forkAt p r) i in
+          let (b, at, c) = bind-elim (bindAt p r) _ e in
+          let (u, k, d) = bind-elim (spawnOf (b .form)) _ c in
+          let same : t ≡ u = cc in
+          let there : So (has (spawnOf (b .form)) (λ t. step r t r s)) = has-intro _ k (step-intro refl (eqb-true s t j ∙ same)) in
+          by r b at (rw (row-steps r r s b at) (or-right (plain (b .form) && step r (b .rest) r s) (or-left _ there)))
+
+      call : So (someCalled p flow r (eqb s)) → So (any (length p) λ q. rowSteps p flow q r s)
+      call i =
+          let (b, at) = call-bind r (eqb s) i in
+          let (t, j, calls) = called r (eqb s) i in
+          by r b at (call-gives r b at t r s calls (or-left _ (step-intro refl (eqb-true s t j))))
+
+      back : So (any (length p) λ q. has (bindAt p q) (λ b. eqb s (b .rest)) && someCalled p flow q (λ t. eqb r (resultRow p t)))
+          → So (any (length p) λ q. rowSteps p flow q r s)
+      back i =
+          let (q, l, j) = any-elim (length p) _ i in
+          let there : So (has (bindAt p q) (λ b. eqb s (b .rest))) = search and-left in
+          let calling : So (someCalled p flow q (λ t. eqb r (resultRow p t))) = search and-right in
+          let (b, at, k) = has-elim _ (bindAt p q) there in
+          let (t, m, calls) = called q _ calling in
+          let e : s ≡ b .rest = eqb-true s (b .rest) k in
+          let d : r ≡ resultRow p t = eqb-true r (resultRow p t) m in
+          let back-step : So (step (resultRow p t) (b .rest) r s) = step-intro d e in
+          by q b at (call-gives q b at t r s calls (or-right (step q t r s) back-step))
+
+  pub edge-rows : (r s : ℕ) → anyRow p flow (length p) r s ≡ edge p flow r s
+  unfolding anyRow
+  edge-rows r s = same-test (anyRow p flow (length p) r s) (edge p flow r s) some (taken r s)
+    where
+      some : So (anyRow p flow (length p) r s) → So (edge p flow r s)
+      some h = let (q, l, i) = any-elim (length p) (λ q. rowSteps p flow q r s) h in given q r s i
+
+-- in a store, what all n rows give
+pub told-edges : (n : ℕ) (s : Bytes) (flow : Table) (q : ℕ) {a b : Bytes} → q ≡ n → Told n (anyRow (storeProgram n s) flow q) a b → Told n (edge (storeProgram n s) flow) a b
+told-edges n s flow q e h =
+    let l : q ≡ length (storeProgram n s) = e ∙ sym (program-length n s) in
+    told-as (λ r t. rw l (edge-rows (storeProgram n s) flow r t)) h

@@ -1,0 +1,80 @@
+-- `mark_body` meets its contract: row k is not in the set, or is no fun row, or is called.
+use Prim.Native.Nat.{ℕ}
+use native.Mathlib.Omega.{arith}
+use mathlib.Core.List.{[], _∷_}
+use mathlib.Core.Logic.{inl, inr}
+use mathlib.Core.Path.{_≡_, refl, sym, _∙_}
+use mathlib.Core.Bool.{false}
+use denote.Enum.Declared.{tagOf}
+use types.Run.{OneOf}
+use borrow.Author.Needs.{needs}
+use Rattle.program.specs.Program.{Program}
+use Rattle.reach.specs.Edges.{kindCalled}
+use Rattle.reach.specs.declared.edges.Kind.the-variants.{End, Next, Body, Fork, Branch, Call}
+use Rattle.reach.specs.declared.edges.Kind.{Kind}
+use Rattle.reach.proofs.edges.Kind.{the-type}
+use Rattle.reach.proofs.Marks.{adds-none, adds-as, body-out, body-none, body-in}
+use Rattle.reach.proofs.edges.mark_body.Statement.{statement}
+use Rattle.reach.proofs.edges.mark_body.Tie as tie
+
+-- a row of another kind gives nothing
+no-body : (p : Program) (q rest : ℕ) (kind : Kind) → (tagOf the-type kind ≡ 2 → ⊥) → (r s : ℕ) → kindCalled p q rest kind r s ≡ false
+unfolding kindCalled
+no-body p q rest End n r s = refl
+no-body p q rest (Next rest′) n r s = refl
+no-body p q rest (Body t rest′) n r s = absurd (n refl)
+no-body p q rest (Fork t rest′) n r s = refl
+no-body p q rest (Branch t w rest′) n r s = refl
+no-body p q rest (Call f rest′) n r s = refl
+
+not-two : (x : ℕ) → OneOf (0 ∷ 1 ∷ 3 ∷ 4 ∷ 5 ∷ []) x → x ≡ 2 → ⊥
+not-two x (inl e) d = omega arith
+not-two x (inr (inl e)) d = omega arith
+not-two x (inr (inr (inl e))) d = omega arith
+not-two x (inr (inr (inr (inl e)))) d = omega arith
+not-two x (inr (inr (inr (inr e)))) d = omega arith
+
+add-flow-flag : tie.Need-add-flow-flag
+add-flow-flag c = search needs
+
+flow-flag-requires : tie.Need-flow-flag-requires
+flow-flag-requires c κs = search needs
+
+returns : tie.Need-returns
+returns c = adds-none _ (λ r s lr ls. body-out _ _ _ _ _ _ (sym (c .before .flow-flag .ensures) ∙ c .if1 .taken) r s)
+
+kind-at-requires : tie.Need-kind-at-requires
+kind-at-requires c κs = search needs
+
+enum-known-body : tie.Need-enum-known-body
+enum-known-body c = search needs
+
+returns-2 : tie.Need-returns-2
+returns-2 c = adds-none _ (λ r s lr ls. body-none _ _ _ _ _ _ (λ r s. rw (← (c .before .kind-at .ensures)) (no-body _ _ _ _ (not-two _ (c .match .keys2)) r s)) r s)
+
+byte-at-requires : tie.Need-byte-at-requires
+byte-at-requires c κs = search needs
+
+mark-call-requires : tie.Need-mark-call-requires
+mark-call-requires c κs = search needs
+
+same-length : tie.Need-same-length
+same-length c = search needs
+
+returns-3 : tie.Need-returns-3
+returns-3 c = adds-as (body-in _ _ _ _ _ _ (λ e. c .before .before .before .before .before .before .before .before .before .if1 .left (c .before .before .before .before .before .before .before .before .before .before .flow-flag .ensures ∙ e)) (sym (c .before .before .before .before .before .before .before .before .kind-at .ensures) ∙ c .before .before .before .before .before .before .body .given .1) (c .before .before .before .before .byte-at .ensures ∙ c .before .before .before .before .before .before .before .before .before .before .before .before .before .before .pre .1 .at _ (c .before .before .before .before .before .before .before .before .before .before .before .before .before .before .pre .0 .2))) (c .before .before .mark-call .ensures)
+
+pub mark-body-spec : {M : Type 1} → statement M
+mark-body-spec =
+    tie.close
+    (tie.spec
+    add-flow-flag
+    flow-flag-requires
+    returns
+    kind-at-requires
+    enum-known-body
+    returns-2
+    byte-at-requires
+    mark-call-requires
+    same-length
+    returns-3)

@@ -1,0 +1,121 @@
+-- The refusals 6 to 9 by the numbers that the functions answer: a row below the count of rows, and a line that is not 0.
+use Prim.Native.Nat.{ℕ, _≤_, _<_}
+use native.Mathlib.Omega.{arith}
+use mathlib.Core.Bool.{Bool}
+use mathlib.Core.List.{List}
+use mathlib.Core.Option.{Option, none, some}
+use mathlib.Core.Path.{_≡_, refl, sym, ap}
+use borrow.Author.Tests.{lt-ltb, le-ltb}
+use Rattle.program.specs.Test.{least}
+use Rattle.program.specs.Maybe.{_>>=_, _<|>_}
+use Rattle.program.proofs.Test.{Least, none-passes, smallest, least-is}
+use Rattle.format.specs.declared.Reason.the-variants.{WrongPointer, BoundTwice, OutOfScope, NotAllowed}
+use Rattle.format.specs.Limits.{rowLimit}
+use Rattle.format.specs.Text.{Bytes}
+use Rattle.format.specs.Refusals.{refusal}
+use Rattle.format.specs.Document.{Document}
+use Rattle.format.specs.Scope.{scopeFault}
+use Rattle.format.specs.Structure.{rowLine, pointerFault, binderFault, scopeLine, firstFailing, flowLine, commLine, claimLine, notAllowed, structureFault}
+use Rattle.format.proofs.First.{First, fails, first-is}
+use Rattle.store.specs.Rows.{storeProgram}
+use Rattle.store.proofs.Laws.{program-length}
+use Rattle.structure.specs.Numbers.{rowOr}
+use Rattle.structure.specs.Lines.{lineOr, storeDocument}
+use Rattle.structure.proofs.Checking.{rows-are}
+
+-- ---- a row, or none
+
+module _ (n : ℕ) (f : ℕ → Bool) (m : ℕ) (limit : n ≤ rowLimit) (e : m ≡ rowOr (least n f)) where
+  row-found : m < n → least n f ≡ some m
+  row-found l = go (least n f) (least-is n f) e
+    where
+      go : (o : Option ℕ) → Least n f o → m ≡ rowOr o → o ≡ some m
+      go none (none-passes k) q = absurd (omega arith)
+      go (some i) (smallest b t k) q = ap some (sym q)
+
+  row-missing : n ≤ m → least n f ≡ none
+  row-missing l = go (least n f) (least-is n f) e
+    where
+      go : (o : Option ℕ) → Least n f o → m ≡ rowOr o → o ≡ none
+      go none (none-passes k) q = refl
+      go (some i) (smallest b t k) q = absurd (omega arith)
+
+-- ---- a line, or none
+
+line-from : {A : Type 0} (ok : A → Bool) (line : ℕ) (xs : List A) {l : ℕ} → firstFailing ok line xs ≡ some l → line ≤ l
+line-from ok line xs {l} e = go (rw e at (first-is ok line xs))
+  where
+    go : First ok line xs (some l) → line ≤ l
+    go (fails before x after s h q m) = omega arith
+
+-- one of three lines
+either-line : (a b c : Option ℕ) {l : ℕ} → (a <|> b <|> c) ≡ some l → (a ≡ some l → 0 < l) → (b ≡ some l → 0 < l) → (c ≡ some l → 0 < l) → 0 < l
+unfolding _<|>_
+either-line (some x) b c e f g h = f e
+either-line none (some x) c e f g h = g e
+either-line none none c e f g h = h e
+
+-- "lines count from 1"
+pub line-above : (d : Document) {l : ℕ} → notAllowed d ≡ some l → 0 < l
+unfolding notAllowed claimLine commLine flowLine
+line-above d e =
+    either-line _ _ _ e
+    (λ q. omega (arith, line-from _ _ _ q))
+    (λ q. omega (arith, line-from _ _ _ q))
+    (λ q. omega (arith, line-from _ _ _ q))
+
+module _ (d : Document) (l : ℕ) (e : l ≡ lineOr (notAllowed d)) where
+  line-found : (l ≡ 0 → ⊥) → notAllowed d ≡ some l
+  line-found h = go (notAllowed d) e
+    where
+      go : (o : Option ℕ) → l ≡ lineOr o → o ≡ some l
+      go none q = absurd (h q)
+      go (some k) q = ap some (sym q)
+
+  line-missing : l ≡ 0 → notAllowed d ≡ none
+  line-missing h = go (notAllowed d) refl e
+    where
+      go : (o : Option ℕ) → notAllowed d ≡ o → l ≡ lineOr o → notAllowed d ≡ none
+      go none p q = p
+      go (some k) p q = absurd (omega (arith, line-above d p))
+
+-- ---- the first refusal
+
+module _ (n : ℕ) (s : Bytes) (limit : n ≤ rowLimit) where
+  refusals : structureFault (storeDocument n s)
+      ≡ ((least n (pointerFault (storeProgram n s)) >>= λ r. some (refusal WrongPointer (rowLine r)))
+      <|> (least n (binderFault (storeProgram n s)) >>= λ r. some (refusal BoundTwice (rowLine r)))
+      <|> (scopeLine (storeProgram n s) >>= λ r. some (refusal OutOfScope (rowLine r)))
+      <|> (notAllowed (storeDocument n s) >>= λ line. some (refusal NotAllowed line)))
+  unfolding structureFault
+  refusals = rw (rows-are n s, program-length n s)
+
+  module _ {m : ℕ} (pointer : m ≡ rowOr (least n (pointerFault (storeProgram n s)))) where
+    pub pointer-refused : m < n → some (refusal WrongPointer (rowLine m)) ≡ structureFault (storeDocument n s)
+    unfolding _>>=_ _<|>_
+    pointer-refused l = rw (refusals, row-found n _ m limit pointer l)
+
+    module _ (no-pointer : n ≤ m) {b : ℕ} (binder : b ≡ rowOr (least n (binderFault (storeProgram n s)))) where
+      pub binder-refused : b < n → some (refusal BoundTwice (rowLine b)) ≡ structureFault (storeDocument n s)
+      unfolding _>>=_ _<|>_
+      binder-refused l = rw (refusals, row-missing n _ m limit pointer no-pointer, row-found n _ b limit binder l)
+
+      module _ (no-binder : n ≤ b) {c : ℕ} (scope : c ≡ scopeFault (storeProgram n s)) where
+        pub scope-refused : c < n → some (refusal OutOfScope (rowLine c)) ≡ structureFault (storeDocument n s)
+        unfolding _>>=_ _<|>_ scopeLine
+        scope-refused l =
+            rw (refusals, row-missing n _ m limit pointer no-pointer, row-missing n _ b limit binder no-binder, program-length n s, ← scope, lt-ltb c n l)
+
+        module _ (in-scope : n ≤ c) {l : ℕ} (line : l ≡ lineOr (notAllowed (storeDocument n s))) where
+          past-scope : structureFault (storeDocument n s) ≡ (notAllowed (storeDocument n s) >>= λ line. some (refusal NotAllowed line))
+          unfolding _>>=_ _<|>_ scopeLine
+          past-scope =
+              rw (refusals, row-missing n _ m limit pointer no-pointer, row-missing n _ b limit binder no-binder, program-length n s, ← scope, le-ltb c n in-scope)
+
+          pub line-refused : (l ≡ 0 → ⊥) → some (refusal NotAllowed l) ≡ structureFault (storeDocument n s)
+          unfolding _>>=_
+          line-refused h = rw (past-scope, line-found _ l line h)
+
+          pub none-refused : l ≡ 0 → none ≡ structureFault (storeDocument n s)
+          unfolding _>>=_
+          none-refused h = rw (past-scope, line-missing _ l line h)

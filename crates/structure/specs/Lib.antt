@@ -1,0 +1,5 @@
+-- What the functions of this crate answer.
+pub mod Numbers
+pub mod Seen
+pub mod Lines
+pub mod Answer

@@ -1,0 +1,62 @@
+// The structure of a program in a store: the rows that its rows point at, the names that they bind, and what its sets and claims may name.
+use format::Reason;
+use format::Refusal;
+ghost use mathlib.Core.Path.{_≡_};
+ghost use Prim.Native.Nat.{_≤_};
+ghost use Rattle.format.specs.Refusals.{refusal};
+ghost use Rattle.format.specs.Limits.{rowLimit};
+ghost use Rattle.format.specs.Structure.{rowLine, structureFault};
+ghost use Rattle.structure.specs.Lines.{storeDocument};
+ghost use Rattle.structure.specs.Answer.{structureRead};
+
+mod few; // few.rt: the rows that a row points at, and the names that it binds
+mod seen; // seen.rt: the numbers that were seen so far
+mod faults; // faults.rt: the smallest row with a wrong pointer, or with a name bound earlier
+mod allowed; // allowed.rt: the first line of sets and claims that names what it may not
+
+pub use allowed::not_allowed;
+pub use faults::binder_fault;
+pub use faults::pointer_fault;
+
+// Refusals 6 to 9: the first of them, or none.
+pub enum Structure {
+    Sound,
+    Refused(Refusal),
+}
+
+// The refusal at the line of a row: row 0 stands on line 2.
+fn at_row(reason: Reason, r: u8) -> Structure
+    ensures { λ x. ⌜ x ≡ Structure.Refused (refusal reason (rowLine r)) ⌝ }
+{
+    Structure::Refused(Refusal {
+        reason: reason,
+        line: r as usize + 2,
+    })
+}
+
+// The first refusal of 6, 7, 8 and 9 of a store with this many rows.
+pub fn structure_fault(store: &[u8], rows: u8) -> Structure
+    requires { ⌜ rows ≤ rowLimit ⌝ }
+    ensures { λ x. ⌜ structureRead x ≡ structureFault (storeDocument rows (now (store .entry))) ⌝ }
+{
+    let pointer = pointer_fault(store, rows);
+    if pointer < rows {
+        return at_row(Reason::WrongPointer, pointer);
+    }
+    let binder = binder_fault(store, rows);
+    if binder < rows {
+        return at_row(Reason::BoundTwice, binder);
+    }
+    let scope = store::scope_fault(store, rows);
+    if scope < rows {
+        return at_row(Reason::OutOfScope, scope);
+    }
+    let line = not_allowed(store, rows);
+    if line != 0 {
+        return Structure::Refused(Refusal {
+            reason: Reason::NotAllowed,
+            line: line,
+        });
+    }
+    Structure::Sound
+}
