@@ -1,0 +1,26 @@
+use borrow.Author.Needs.{needs}
+use Rattle.checker.proofs.Files.{too-short, long-enough}
+use Rattle.checker.proofs.load.Statement.{statement}
+use Rattle.checker.proofs.load.Tie as tie
+use Rattle.checker.proofs.load.Reads as reads
+use Rattle.checker.proofs.load.Lts as lts
+use Rattle.checker.proofs.load_file.Reads as load-file-reads
+
+-- src/lib.rt:72:9
+returns : tie.Need-returns
+returns c = too-short _ _ (c .if1 .taken)
+
+-- src/lib.rt:77:5
+load-file-requires : tie.Need-load-file-requires
+load-file-requires c κs = search needs
+
+-- src/lib.rt:68:1
+same-length : tie.Need-same-length
+same-length c = search needs
+
+-- src/lib.rt:68:1
+returns-2 : tie.Need-returns-2
+returns-2 c = long-enough _ _ (c .before .before .before .before .if1 .left) (c .before .before .load-file .ensures)
+
+pub load-spec : {M : Type 1} → statement M
+load-spec = tie.close (tie.spec returns load-file-requires same-length returns-2)
