@@ -1,0 +1,192 @@
+-- Rows of a store's program, the forms that they hold, and the results that they come to.
+use Prim.Native.Nat.{ℕ, zero, suc, _-_, _≤_, _<_}
+use native.Mathlib.Omega.{arith}
+use native.Mathlib.Decide.{decLt}
+use native.Mathlib.Numerals.{sub-one}
+use mathlib.Core.Bool.{Bool, true, false, not}
+use mathlib.Core.List.{List, [], _∷_}
+use mathlib.Core.Option.{Option, none, some}
+use mathlib.Core.Path.{_≡_, refl, sym, ap, _∙_}
+use lib.ListN.{List·getD-eq-default}
+use mir.Val.{hasKey}
+use types.Run.{OneOf, miss}
+use lib.Dec.{T, eqb}
+use borrow.Author.Tests.{lt-ltb, le-ltb}
+use denote.Enum.Declared.{tagOf}
+use Rattle.program.specs.declared.Row.{Row}
+use Rattle.program.specs.declared.Bind.{Bind}
+use Rattle.program.proofs.Form as form
+use Rattle.program.specs.declared.Form.{Form}
+use Rattle.program.specs.declared.Form.the-variants.{Chan, Send, Recv, Pair, Left, Right, Fun, Spawn, Sync, First, Second, Case, Apply}
+use Rattle.program.specs.Test.{pick, _⇒_}
+use Rattle.program.specs.Maybe.{_>>=_, when}
+use Rattle.program.specs.Program.{Program, byKind, rowAt, bindOf, bindAt, formAt, nameOf, resultFrom, resultRow, resultName, sendOf, recvOf, pairOf, leftOf, rightOf, funOf, chanOf, chanAt, sendAt, recvAt, pairAt, leftAt, rightAt, funAt}
+use Rattle.format.specs.Text.{Bytes}
+use Rattle.store.specs.Rows.{storeProgram}
+use Rattle.store.proofs.Laws.{program-length}
+use Rattle.flow.specs.Rules.{formIn, Names}
+use Rattle.flow.proofs.Members.{Filled}
+
+-- past the last row
+pub row-past : (n : ℕ) (s : Bytes) (r : ℕ) → n ≤ r → rowAt (storeProgram n s) r ≡ Row.Result 0
+unfolding rowAt
+row-past n s r h = List·getD-eq-default (storeProgram n s) (Row.Result 0) {n = r} (rw (program-length n s) h)
+
+-- ---- the fourteen forms
+
+pub every-form : (P : Form → Type 0)
+    → P Form.Unit
+    → P Chan
+    → ((c m : ℕ) → P (Send c m))
+    → ((c : ℕ) → P (Recv c))
+    → ((a b : ℕ) → P (Pair a b))
+    → ((a : ℕ) → P (Left a))
+    → ((a : ℕ) → P (Right a))
+    → ((f x t : ℕ) → P (Fun f x t))
+    → ((t : ℕ) → P (Spawn t))
+    → ((e : ℕ) → P (Sync e))
+    → ((a : ℕ) → P (First a))
+    → ((a : ℕ) → P (Second a))
+    → ((s l t r w : ℕ) → P (Case s l t r w))
+    → ((f a : ℕ) → P (Apply f a))
+    → (f : Form) → P f
+every-form P h0 h1 h2 h3 h4 h5 h6 h7 h8 h9 h10 h11 h12 h13 Form.Unit = h0
+every-form P h0 h1 h2 h3 h4 h5 h6 h7 h8 h9 h10 h11 h12 h13 Chan = h1
+every-form P h0 h1 h2 h3 h4 h5 h6 h7 h8 h9 h10 h11 h12 h13 (Send c m) = h2 c m
+every-form P h0 h1 h2 h3 h4 h5 h6 h7 h8 h9 h10 h11 h12 h13 (Recv c) = h3 c
+every-form P h0 h1 h2 h3 h4 h5 h6 h7 h8 h9 h10 h11 h12 h13 (Pair a b) = h4 a b
+every-form P h0 h1 h2 h3 h4 h5 h6 h7 h8 h9 h10 h11 h12 h13 (Left a) = h5 a
+every-form P h0 h1 h2 h3 h4 h5 h6 h7 h8 h9 h10 h11 h12 h13 (Right a) = h6 a
+every-form P h0 h1 h2 h3 h4 h5 h6 h7 h8 h9 h10 h11 h12 h13 (Fun f x t) = h7 f x t
+every-form P h0 h1 h2 h3 h4 h5 h6 h7 h8 h9 h10 h11 h12 h13 (Spawn t) = h8 t
+every-form P h0 h1 h2 h3 h4 h5 h6 h7 h8 h9 h10 h11 h12 h13 (Sync e) = h9 e
+every-form P h0 h1 h2 h3 h4 h5 h6 h7 h8 h9 h10 h11 h12 h13 (First a) = h10 a
+every-form P h0 h1 h2 h3 h4 h5 h6 h7 h8 h9 h10 h11 h12 h13 (Second a) = h11 a
+every-form P h0 h1 h2 h3 h4 h5 h6 h7 h8 h9 h10 h11 h12 h13 (Case s l t r w) = h12 s l t r w
+every-form P h0 h1 h2 h3 h4 h5 h6 h7 h8 h9 h10 h11 h12 h13 (Apply f a) = h13 f a
+
+abbrev pub isChan : Form → Bool
+isChan = byKind false true (λ c m. false) (λ c. false) (λ a b. false) (λ a. false) (λ a. false) (λ f x t. false) (λ t. false) (λ e. false) (λ s l t r w. false) (λ f a. false)
+
+chan-of : (n : ℕ) (t : Bool) (f : Form) → when (chanOf n f) (λ n. t) ≡ isChan f ⇒ t
+unfolding when
+chan-of n t = every-form _ refl refl (λ c m. refl) (λ c. refl) (λ a b. refl) (λ a. refl) (λ a. refl) (λ f x t. refl) (λ t. refl) (λ e. refl) (λ a. refl) (λ a. refl) (λ s l t r w. refl) (λ f a. refl)
+
+-- ---- what a row's form holds
+
+at-form : {A : Type 0} (p : Program) (r : ℕ) (g : Form → Option A) → g Form.Unit ≡ none → formAt p r >>= g ≡ g (formIn (rowAt p r))
+unfolding formAt bindAt bindOf formIn _>>=_
+at-form p r g e = go (rowAt p r)
+  where
+    go : (w : Row) → (bindOf w >>= (λ b. some (b .form))) >>= g ≡ g (formIn w)
+    go (Row.Result n) = sym e
+    go (Row.Bind b) = refl
+
+module _ (p : Program) (r : ℕ) {f : Form} (e : f ≡ formIn (rowAt p r)) where
+  pub send-at : sendAt p r ≡ sendOf f
+  unfolding sendAt
+  send-at = at-form p r sendOf refl ∙ ap sendOf (sym e)
+
+  pub recv-at : recvAt p r ≡ recvOf f
+  unfolding recvAt
+  recv-at = at-form p r recvOf refl ∙ ap recvOf (sym e)
+
+  pub pair-at : pairAt p r ≡ pairOf f
+  unfolding pairAt
+  pair-at = at-form p r pairOf refl ∙ ap pairOf (sym e)
+
+  pub left-at : leftAt p r ≡ leftOf f
+  unfolding leftAt
+  left-at = at-form p r leftOf refl ∙ ap leftOf (sym e)
+
+  pub right-at : rightAt p r ≡ rightOf f
+  unfolding rightAt
+  right-at = at-form p r rightOf refl ∙ ap rightOf (sym e)
+
+  pub fun-at : funAt p r ≡ funOf f
+  unfolding funAt
+  fun-at = at-form p r funOf refl ∙ ap funOf (sym e)
+
+  pub chan-at : (t : Bool) → when (chanAt p r) (λ n. t) ≡ isChan f ⇒ t
+  unfolding chanAt bindAt bindOf formIn _>>=_ when
+  chan-at t = go (rowAt p r) ∙ ap (λ f. isChan f ⇒ t) (sym e)
+    where
+      go : (w : Row) → when (bindOf w >>= λ b. chanOf (b .name) (b .form)) (λ n. t) ≡ isChan (formIn w) ⇒ t
+      go (Row.Result n) = refl
+      go (Row.Bind b) = chan-of (b .name) t (b .form)
+
+-- ---- the result of a row
+
+module _ (p : Program) where
+  pub result-end : (k : ℕ) {n : ℕ} (r : ℕ) → rowAt p r ≡ Row.Result n → resultFrom k p r ≡ r
+  unfolding resultFrom
+  result-end zero r e = refl
+  result-end (suc k) r e = rw (e, resultFrom)
+
+  pub result-step : (k : ℕ) {b : Bind} (r : ℕ) → 0 < k → rowAt p r ≡ Row.Bind b → resultFrom k p r ≡ resultFrom (k - 1) p (b .rest)
+  unfolding resultFrom
+  result-step zero r l e = absurd (omega arith)
+  result-step (suc k) r l e = rw (e, sub-one, resultFrom)
+
+module _ (n : ℕ) (s : Bytes) where
+  result-found : (r k : ℕ) → k ≡ resultFrom n (storeProgram n s) r → nameOf (rowAt (storeProgram n s) k) ≡ resultName (storeProgram n s) r
+  unfolding resultName resultRow
+  result-found r k e = rw (program-length n s, e)
+
+  -- a walk from row r has come to a result
+  pub result-reached : (left r at m : ℕ)
+      → resultFrom left (storeProgram n s) at ≡ resultFrom n (storeProgram n s) r → rowAt (storeProgram n s) at ≡ Row.Result m → m ≡ resultName (storeProgram n s) r
+  unfolding nameOf
+  result-reached left r at m inv e = rw e at (result-found r at (sym (result-end (storeProgram n s) left at e) ∙ inv))
+
+  -- it has gone as many steps as there are rows
+  pub result-out : (left r at : ℕ)
+      → left ≤ 0 → resultFrom left (storeProgram n s) at ≡ resultFrom n (storeProgram n s) r → nameOf (rowAt (storeProgram n s) at) ≡ resultName (storeProgram n s) r
+  unfolding resultFrom
+  result-out zero r at l inv = result-found r at inv
+  result-out (suc left) r at l inv = absurd (omega arith)
+
+  pub result-past : (r : ℕ) → n ≤ r → resultName (storeProgram n s) r ≡ 0
+  result-past r h = sym (result-reached n r r 0 refl (row-past n s r h))
+
+  -- the names of the first n rows, and zeros
+  pub names-filled : {names : Bytes} → Filled n (resultName (storeProgram n s)) names → Names (storeProgram n s) names
+  unfolding Names
+  names-filled h t =
+      elim (decLt t n) [
+        | yes l ↦ h .bytes t ∙ rw (lt-ltb t n l)
+        | no g ↦ h .bytes t ∙ rw (le-ltb t n (omega arith), result-past t (omega arith))
+      ]
+
+-- ---- a form that is none of some kinds
+
+-- the kinds are numbered in their order
+abbrev pub kinds : List ℕ
+kinds = 0 ∷ 1 ∷ 2 ∷ 3 ∷ 4 ∷ 5 ∷ 6 ∷ 7 ∷ 8 ∷ 9 ∷ 10 ∷ 11 ∷ 12 ∷ 13 ∷ []
+
+abbrev pub but : ℕ → List ℕ → List ℕ
+but k [] = []
+but k (x ∷ xs) = pick (eqb x k) (but k xs) (x ∷ but k xs)
+
+-- a form whose kind is one of ks, where a kind is not, is not of that kind
+module _ (ks : List ℕ) (f : Form) where
+  pub no-send : T (not (hasKey ks 2)) → OneOf ks (tagOf form.the-type f) → sendOf f ≡ none
+  no-send h = every-form (λ f. OneOf ks (tagOf form.the-type f) → sendOf f ≡ none) (λ o. refl) (λ o. refl) (λ c m o. absurd (miss ks 2 h o)) (λ c o. refl) (λ a b o. refl) (λ a o. refl) (λ a o. refl) (λ f x t o. refl) (λ t o. refl) (λ e o. refl) (λ a o. refl) (λ a o. refl) (λ s l t r w o. refl) (λ f a o. refl) f
+
+  pub no-recv : T (not (hasKey ks 3)) → OneOf ks (tagOf form.the-type f) → recvOf f ≡ none
+  no-recv h = every-form (λ f. OneOf ks (tagOf form.the-type f) → recvOf f ≡ none) (λ o. refl) (λ o. refl) (λ c m o. refl) (λ c o. absurd (miss ks 3 h o)) (λ a b o. refl) (λ a o. refl) (λ a o. refl) (λ f x t o. refl) (λ t o. refl) (λ e o. refl) (λ a o. refl) (λ a o. refl) (λ s l t r w o. refl) (λ f a o. refl) f
+
+  pub no-pair : T (not (hasKey ks 4)) → OneOf ks (tagOf form.the-type f) → pairOf f ≡ none
+  no-pair h = every-form (λ f. OneOf ks (tagOf form.the-type f) → pairOf f ≡ none) (λ o. refl) (λ o. refl) (λ c m o. refl) (λ c o. refl) (λ a b o. absurd (miss ks 4 h o)) (λ a o. refl) (λ a o. refl) (λ f x t o. refl) (λ t o. refl) (λ e o. refl) (λ a o. refl) (λ a o. refl) (λ s l t r w o. refl) (λ f a o. refl) f
+
+  pub no-left : T (not (hasKey ks 5)) → OneOf ks (tagOf form.the-type f) → leftOf f ≡ none
+  no-left h = every-form (λ f. OneOf ks (tagOf form.the-type f) → leftOf f ≡ none) (λ o. refl) (λ o. refl) (λ c m o. refl) (λ c o. refl) (λ a b o. refl) (λ a o. absurd (miss ks 5 h o)) (λ a o. refl) (λ f x t o. refl) (λ t o. refl) (λ e o. refl) (λ a o. refl) (λ a o. refl) (λ s l t r w o. refl) (λ f a o. refl) f
+
+  pub no-right : T (not (hasKey ks 6)) → OneOf ks (tagOf form.the-type f) → rightOf f ≡ none
+  no-right h = every-form (λ f. OneOf ks (tagOf form.the-type f) → rightOf f ≡ none) (λ o. refl) (λ o. refl) (λ c m o. refl) (λ c o. refl) (λ a b o. refl) (λ a o. refl) (λ a o. absurd (miss ks 6 h o)) (λ f x t o. refl) (λ t o. refl) (λ e o. refl) (λ a o. refl) (λ a o. refl) (λ s l t r w o. refl) (λ f a o. refl) f
+
+  pub no-fun : T (not (hasKey ks 7)) → OneOf ks (tagOf form.the-type f) → funOf f ≡ none
+  no-fun h = every-form (λ f. OneOf ks (tagOf form.the-type f) → funOf f ≡ none) (λ o. refl) (λ o. refl) (λ c m o. refl) (λ c o. refl) (λ a b o. refl) (λ a o. refl) (λ a o. refl) (λ f x t o. absurd (miss ks 7 h o)) (λ t o. refl) (λ e o. refl) (λ a o. refl) (λ a o. refl) (λ s l t r w o. refl) (λ f a o. refl) f
+
+  pub no-chan : T (not (hasKey ks 1)) → OneOf ks (tagOf form.the-type f) → isChan f ≡ false
+  no-chan h = every-form (λ f. OneOf ks (tagOf form.the-type f) → isChan f ≡ false) (λ o. refl) (λ o. absurd (miss ks 1 h o)) (λ c m o. refl) (λ c o. refl) (λ a b o. refl) (λ a o. refl) (λ a o. refl) (λ f x t o. refl) (λ t o. refl) (λ e o. refl) (λ a o. refl) (λ a o. refl) (λ s l t r w o. refl) (λ f a o. refl) f

@@ -1,0 +1,5 @@
+-- Laws about the definitions of specs/.
+pub mod Tests
+pub mod Members
+pub mod Forms
+pub mod Asked
