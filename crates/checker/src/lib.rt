@@ -1,10 +1,13 @@
 // The checker's calls.
 use calls::Counts;
 use calls::LoadAnswer;
+use calls::WriteAnswer;
 use format::Reason;
 use format::Refusal;
 use loading::FileRead;
 use loading::Progress;
+use open::Opened;
+use open::open;
 use store::Store;
 use structure::Structure;
 ghost use Prim.Native.Nat.{_≤_};
@@ -13,8 +16,10 @@ ghost use Rattle.format.specs.Limits.{rowLimit};
 ghost use Rattle.format.specs.Refusals.{refused};
 ghost use Rattle.format.specs.Check.{check};
 ghost use Rattle.calls.specs.Layout.{storeSize};
-ghost use Rattle.calls.specs.Calls.{load, loaded};
+ghost use Rattle.calls.specs.Calls.{load, loaded, write};
 ghost use Rattle.checker.specs.Loading.{Leaves, Finishes};
+
+mod open; // open.rt: 20, 21 and 22
 
 // A refusal leaves the store empty.
 fn refuse(store: &mut [u8], refusal: Refusal) -> LoadAnswer
@@ -75,4 +80,24 @@ pub fn load(file: &[u8], store: &mut [u8]) -> LoadAnswer
         });
     }
     load_file(file, store)
+}
+
+// Writes the text of a store into the lent output: its length, or refusals 20 to 23.
+pub fn write(store: &[u8], out: &mut [u8]) -> WriteAnswer
+    ensures { λ a. ⌜ Leaves (write (now (store .entry)) (now (out .entry))) a (now (out .exit)) ⌝ }
+{
+    match open(store) {
+        Opened::Refused(refusal) => WriteAnswer::Refused(refusal),
+        Opened::Rows(rows) => {
+            let length = writing::document_length(store, rows);
+            if out.len() < length {
+                return WriteAnswer::Refused(Refusal {
+                    reason: Reason::OutputTooShort,
+                    line: 0,
+                });
+            }
+            writing::put_document(out, store, rows);
+            WriteAnswer::Written(length)
+        }
+    }
 }

@@ -1,0 +1,89 @@
+-- Opening a store: the tests of its bytes, then those of its structure.
+use Prim.Native.Nat.{ℕ, _≤_, _<_}
+use native.Mathlib.Omega.{arith}
+use mathlib.Core.Bool.{Bool, true, false, not, _&&_}
+use mathlib.Core.Option.{Option, none, some}
+use mathlib.Core.Path.{_≡_, refl, sym, ap, _∙_, subst}
+use lib.ListN.{length, take, drop}
+use lib.Seq.{take-all}
+use lib.Dec.{ltb, eqb}
+use borrow.Author.Tests.{lt-ltb, le-ltb}
+use Rattle.program.specs.Each.{every}
+use Rattle.format.specs.declared.Refusal.{Refusal}
+use Rattle.format.specs.declared.Reason.the-variants.{StoreTooShort, StoreEmpty, StoreUnsound}
+use Rattle.format.specs.Limits.{rowLimit}
+use Rattle.format.specs.Text.{Bytes}
+use Rattle.format.specs.Refusals.{refusal, Result, refused, accepted}
+use Rattle.format.specs.Document.{Document}
+use Rattle.format.specs.Structure.{structureFault}
+use Rattle.calls.specs.Layout.{storeSize, rowSize, rowOf, counting, decode, decodeRows}
+use Rattle.calls.specs.Calls.{isEmpty, unsound, openedFixed, opened}
+use Rattle.calls.specs.Canonical.{countRows, rowsSound, restZero, flagsSound, claimsSound, canonical}
+use Rattle.calls.proofs.Canonical.{rows-decoded, sound-test}
+use Rattle.store.specs.Rows.{storeRow, storeProgram}
+use Rattle.structure.specs.Lines.{storeDocument}
+use Rattle.structure.proofs.Checking.{document-decodes}
+use Rattle.checker.specs.declared.open.Opened.{Opened}
+use Rattle.checker.specs.Opening.{Opens, OpenedIs}
+
+module _ (s : Bytes) (size : length s ≡ storeSize) where
+  abbrev rows : ℕ
+  rows = countRows rowLimit s
+
+  whole : take storeSize s ≡ s
+  whole = take-all storeSize s (omega (arith, size))
+
+  rows-here : decodeRows rowLimit (take storeSize s) ≡ storeProgram rows s
+  unfolding decode storeProgram storeRow
+  rows-here = rw whole (rows-decoded s)
+
+  -- the store's document is that of as many rows as are counted
+  document-is : (n : ℕ) → n ≡ countRows rowLimit s → storeDocument n s ≡ decode s
+  document-is n e = rw e (sym (document-decodes rows s rows-here) ∙ ap decode whole)
+
+  abbrev Tests : ℕ → Bool
+  Tests n = ltb 0 n && rowsSound n s && restZero n s && flagsSound s && claimsSound s
+
+  tests-are : (n : ℕ) → n ≡ countRows rowLimit s → canonical s ≡ Tests n
+  unfolding canonical
+  tests-are n e = rw e refl
+
+  pub empty-refused : every (λ x. eqb x 0) s ≡ true → OpenedIs (openedFixed s) s (Opened.Refused (refusal StoreEmpty 0))
+  unfolding openedFixed isEmpty
+  empty-refused e = rw (e, openedFixed) refl
+
+  -- 22 is given where the tests fail
+  unsound-fixed : every (λ x. eqb x 0) s ≡ false → unsound s ≡ true → OpenedIs (openedFixed s) s (Opened.Refused (refusal StoreUnsound 0))
+  unfolding openedFixed isEmpty
+  unsound-fixed e u = rw (e, u, openedFixed) refl
+
+  pub tests-refuse : (n : ℕ) → n ≡ countRows rowLimit s → every (λ x. eqb x 0) s ≡ false → Tests n ≡ false → OpenedIs (openedFixed s) s (Opened.Refused (refusal StoreUnsound 0))
+  tests-refuse n e z t = unsound-fixed z (sound-test s size ∙ rw (tests-are n e, t))
+
+  pub structure-refuses : (n : ℕ) → n ≡ countRows rowLimit s → every (λ x. eqb x 0) s ≡ false → (r : Refusal) → some r ≡ structureFault (storeDocument n s)
+      → OpenedIs (openedFixed s) s (Opened.Refused (refusal StoreUnsound 0))
+  structure-refuses n e z r f =
+      let q : structureFault (decode s) ≡ some r = ap structureFault (sym (document-is n e)) ∙ sym f in
+      unsound-fixed z (sound-test s size ∙ rw q (go (canonical s)))
+    where
+      go : (b : Bool) → not (b && false) ≡ true
+      go true = refl
+      go false = refl
+
+  pub store-opens : (n : ℕ) → n ≡ countRows rowLimit s → every (λ x. eqb x 0) s ≡ false → Tests n ≡ true → none ≡ structureFault (storeDocument n s)
+      → OpenedIs (openedFixed s) s (Opened.Rows n)
+  unfolding openedFixed isEmpty
+  store-opens n e z t f =
+      let q : structureFault (decode s) ≡ none = ap structureFault (sym (document-is n e)) ∙ sym f in
+      let u : unsound s ≡ false = sound-test s size ∙ rw (q, tests-are n e, t) in
+      rw (z, u, openedFixed) (record { document-is = refl; answer-is = ap Opened.Rows e })
+
+-- ---- a store at the head of a slice
+
+pub too-short-refused : (s : Bytes) → length s < storeSize → OpenedIs (opened s) (take storeSize s) (Opened.Refused (refusal StoreTooShort 0))
+unfolding opened
+too-short-refused s l = rw (lt-ltb (length s) storeSize l, opened) refl
+
+pub fixed-opened : (s : Bytes) (o : Opened) → storeSize ≤ length s → OpenedIs (openedFixed (take storeSize s)) (take storeSize s) o → OpenedIs (opened s) (take storeSize s) o
+unfolding opened
+fixed-opened s o l h = rw (le-ltb (length s) storeSize l, opened) h

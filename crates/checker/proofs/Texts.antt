@@ -1,0 +1,91 @@
+-- Writing a store that opens: its text, where it fits the output.
+use Prim.Native.Nat.{ℕ, _+_, _≤_, _<_}
+use native.Mathlib.Omega.{arith}
+use mathlib.Core.Bool.{Bool, true, false}
+use mathlib.Core.List.{List, [], _∷_, _++_}
+use mathlib.Core.Path.{_≡_, refl, sym, ap, _∙_, subst}
+use lib.ListN.{length, take, drop}
+use lib.Seq.{sets, sets-eq}
+use lib.Dec.{ltb}
+use borrow.Author.Tests.{lt-ltb, le-ltb, ltb-false}
+use Rattle.format.specs.declared.Refusal.{Refusal}
+use Rattle.format.specs.declared.Reason.the-variants.{StoreTooShort, OutputTooShort}
+use Rattle.format.specs.Limits.{rowLimit}
+use Rattle.format.specs.Text.{Bytes}
+use Rattle.format.specs.Refusals.{refusal, Result, refused, accepted}
+use Rattle.format.specs.Document.{Document}
+use Rattle.format.specs.Print.{documentText}
+use Rattle.calls.specs.declared.WriteAnswer.{WriteAnswer}
+use Rattle.calls.specs.Layout.{storeSize, decode}
+use Rattle.calls.specs.Calls.{openedFixed, opened, andThen, written, write}
+use Rattle.calls.specs.Canonical.{countRows}
+use Rattle.calls.proofs.Canonical.{rows-decoded}
+use Rattle.text.specs.Write.{Wrote}
+use Rattle.store.specs.Rows.{storeRow, storeProgram}
+use Rattle.writing.specs.Texts.{storedDocument}
+use Rattle.checker.specs.declared.open.Opened.{Opened}
+use Rattle.checker.specs.Loading.{Leaves}
+use Rattle.checker.specs.Opening.{Opens, OpenedIs}
+
+-- the document of as many rows as are counted is that of the bytes
+stored-is : (s : Bytes) (n : ℕ) → n ≡ countRows rowLimit s → storedDocument n s ≡ decode s
+unfolding storedDocument decode storeProgram storeRow
+stored-is s n e = rw (e, ← rows-decoded s) refl
+
+-- a text that fits, written at the head of the output
+at-head : (text out : Bytes) → length text ≤ length out → sets out 0 text ≡ text ++ drop (length text) out
+at-head text out l =
+    let q : 0 + length text ≡ length text = omega arith in
+    sets-eq text out 0 (omega (arith, l)) ∙ ap (λ (k : ℕ). text ++ drop k out) q
+
+short-store : (store : Bytes) → ltb (length store) storeSize ≡ true → opened store ≡ refused (refusal StoreTooShort 0)
+unfolding opened
+short-store store e = rw (e, opened)
+
+module _ (store out : Bytes) where
+  abbrev fixed : Bytes
+  fixed = take storeSize store
+
+  abbrev text : ℕ → Bytes
+  text n = documentText (storedDocument n fixed)
+
+  pub refused-store : (r : Refusal) → OpenedIs (opened store) fixed (Opened.Refused r) → Leaves (write store out) (WriteAnswer.Refused r) out
+  unfolding write andThen written
+  refused-store r h = go (opened store) refl h
+    where
+      go : (x : Result Document) → opened store ≡ x → OpenedIs x fixed (Opened.Refused r) → Leaves (write store out) (WriteAnswer.Refused r) out
+      go (refused q) e k = let same : r ≡ q = cc in rw (e, ← same) (record { answer-is = refl; bytes-are = refl })
+      go (accepted d) e k = let w = k .answer-is in let z : _≡_ {A = ℕ} 0 1 = cc in absurd (omega arith)
+
+  -- a store that opens is long enough
+  pub opens-long : (n : ℕ) → OpenedIs (opened store) fixed (Opened.Rows n) → storeSize ≤ length store
+  opens-long n h = go (ltb (length store) storeSize) refl
+    where
+      go : (b : Bool) → ltb (length store) storeSize ≡ b → storeSize ≤ length store
+      go true e = let k = subst (λ (x : Result Document). OpenedIs x fixed (Opened.Rows n)) (short-store store e) h in let z : _≡_ {A = ℕ} 0 1 = cc in absurd (omega arith)
+      go false e = ltb-false (length store) storeSize e
+
+  opens-to : (n : ℕ) → OpenedIs (opened store) fixed (Opened.Rows n) → (d : Document) × (opened store ≡ accepted d) × (documentText d ≡ text n)
+  opens-to n h = go (opened store) refl h
+    where
+      go : (x : Result Document) → opened store ≡ x → OpenedIs x fixed (Opened.Rows n) → (d : Document) × (opened store ≡ accepted d) × (documentText d ≡ text n)
+      go (refused q) e k = let z : _≡_ {A = ℕ} 0 1 = cc in absurd (omega arith)
+      go (accepted d) e k =
+          let w = k .answer-is in
+          let same : n ≡ countRows rowLimit fixed = cc in
+          (d, e, ap documentText (k .document-is ∙ sym (stored-is fixed n same)))
+
+  pub no-room : (n m : ℕ) → OpenedIs (opened store) fixed (Opened.Rows n) → m ≡ length (text n) → length out < m → Leaves (write store out) (WriteAnswer.Refused (refusal OutputTooShort 0)) out
+  unfolding write andThen written
+  no-room n m h e l =
+      let (d, o, t) = opens-to n h in
+      let q : ltb (length out) (length (documentText d)) ≡ true = rw (t, ← e) (lt-ltb (length out) m l) in
+      rw (o, q, written) (record { answer-is = refl; bytes-are = refl })
+
+  pub whole-text : (n m next : ℕ) (left : Bytes) → OpenedIs (opened store) fixed (Opened.Rows n) → m ≡ length (text n) → m ≤ length out → Wrote out 0 (text n) next left
+      → Leaves (write store out) (WriteAnswer.Written m) left
+  unfolding write andThen written
+  whole-text n m next left h e l w =
+      let (d, o, t) = opens-to n h in
+      let q : ltb (length out) (length (documentText d)) ≡ false = rw (t, ← e) (le-ltb (length out) m l) in
+      rw (o, q, written) (record { answer-is = ap WriteAnswer.Written (e ∙ ap length (sym t)); bytes-are = w .left-is ∙ rw (← t) (at-head (documentText d) out (rw (t, ← e) l)) })

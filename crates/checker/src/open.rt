@@ -1,0 +1,56 @@
+// 20, 21 and 22: what a store must be for judge, verdict and write.
+use format::Reason;
+use format::Refusal;
+use store::Store;
+use structure::Structure;
+ghost use mathlib.Core.Path.{_≡_};
+ghost use Rattle.checker.specs.declared.open.Opened.{Opened};
+ghost use lib.ListN.{length, take};
+ghost use Rattle.format.specs.Refusals.{refusal};
+ghost use Rattle.calls.specs.Layout.{storeSize};
+ghost use Rattle.calls.specs.Calls.{openedFixed, opened};
+ghost use Rattle.checker.specs.Opening.{OpenedIs};
+
+// The store of a call: how many rows it has, or why it is refused.
+pub enum Opened {
+    Rows(u8),
+    Refused(Refusal),
+}
+
+// A refusal of the store, at line 0.
+fn refuse_store(reason: Reason) -> Opened
+    ensures { λ o. ⌜ o ≡ Opened.Refused (refusal reason 0) ⌝ }
+{
+    Opened::Refused(Refusal {
+        reason: reason,
+        line: 0,
+    })
+}
+
+// 21 and 22 of a store's fixed size.
+fn open_fixed(fixed: &[u8]) -> Opened
+    requires { ⌜ length (now fixed) ≡ storeSize ⌝ }
+    ensures { λ o. ⌜ OpenedIs (openedFixed (now (fixed .entry))) (now (fixed .entry)) o ⌝ }
+{
+    if opening::all_zero(fixed) {
+        return refuse_store(Reason::StoreEmpty);
+    }
+    let rows = opening::count_rows(fixed);
+    if opening::canonical(fixed, rows) {
+        let Structure::Sound = structure::structure_fault(fixed, rows) else {
+            return refuse_store(Reason::StoreUnsound);
+        };
+        return Opened::Rows(rows);
+    }
+    refuse_store(Reason::StoreUnsound)
+}
+
+// 20, 21 and 22 of a store, at the head of a slice.
+pub fn open(store: &[u8]) -> Opened
+    ensures { λ o. ⌜ OpenedIs (opened (now (store .entry))) (take storeSize (now (store .entry))) o ⌝ }
+{
+    if store.len() < Store::SIZE {
+        return refuse_store(Reason::StoreTooShort);
+    }
+    open_fixed(&store[..Store::SIZE])
+}
