@@ -95,6 +95,13 @@ fn try_stores() {
     print_written(checker::write(&sevens, &mut out), &out);
 }
 
+// The file on standard input: it has as many bytes as a file may have, and 160 rows.
+fn try_input() {
+    let mut file = [0; Store::FILE_BYTES];
+    let n = io::read_full(0, &mut file);
+    try_file(b"the largest file", &file[..n]);
+}
+
 fn main() {
     try_file(
         b"example A",
@@ -129,5 +136,6 @@ fn main() {
         b"9, a claim of no channel",
         b"[dispenser 1]\n[row 0 [bind 0 [unit] 1]]\n[row 1 [result 0]]\n[claim 0 one-shot]\n",
     );
+    try_input();
     try_stores();
 }
