@@ -53,30 +53,30 @@ module _ (s : Bytes) (size : length s ≡ storeSize) where
   empty-refused e = rw (e, openedFixed) refl
 
   -- 22 is given where the tests fail
-  unsound-fixed : every (λ x. eqb x 0) s ≡ false → unsound s ≡ true → OpenedIs (openedFixed s) s (Opened.Refused (refusal StoreUnsound 0))
+  pub unsound-refused : every (λ x. eqb x 0) s ≡ false → unsound s ≡ true → OpenedIs (openedFixed s) s (Opened.Refused (refusal StoreUnsound 0))
   unfolding openedFixed isEmpty
-  unsound-fixed e u = rw (e, u, openedFixed) refl
+  unsound-refused e u = rw (e, u, openedFixed) refl
 
-  pub tests-refuse : (n : ℕ) → n ≡ countRows rowLimit s → every (λ x. eqb x 0) s ≡ false → Tests n ≡ false → OpenedIs (openedFixed s) s (Opened.Refused (refusal StoreUnsound 0))
-  tests-refuse n e z t = unsound-fixed z (sound-test s size ∙ rw (tests-are n e, t))
+  pub store-opens : (n : ℕ) → n ≡ countRows rowLimit s → every (λ x. eqb x 0) s ≡ false → unsound s ≡ false → OpenedIs (openedFixed s) s (Opened.Rows n)
+  unfolding openedFixed isEmpty
+  store-opens n e z u = rw (z, u, openedFixed) (record { document-is = refl; answer-is = ap Opened.Rows e })
 
-  pub structure-refuses : (n : ℕ) → n ≡ countRows rowLimit s → every (λ x. eqb x 0) s ≡ false → (r : Refusal) → some r ≡ structureFault (storeDocument n s)
-      → OpenedIs (openedFixed s) s (Opened.Refused (refusal StoreUnsound 0))
-  structure-refuses n e z r f =
+  pub tests-refuse : (n : ℕ) → n ≡ countRows rowLimit s → Tests n ≡ false → true ≡ unsound s
+  tests-refuse n e t = sym (sound-test s size ∙ rw (tests-are n e, t))
+
+  pub structure-refuses : (n : ℕ) → n ≡ countRows rowLimit s → (r : Refusal) → some r ≡ structureFault (storeDocument n s) → true ≡ unsound s
+  structure-refuses n e r f =
       let q : structureFault (decode s) ≡ some r = ap structureFault (sym (document-is n e)) ∙ sym f in
-      unsound-fixed z (sound-test s size ∙ rw q (go (canonical s)))
+      sym (sound-test s size ∙ rw q (go (canonical s)))
     where
       go : (b : Bool) → not (b && false) ≡ true
       go true = refl
       go false = refl
 
-  pub store-opens : (n : ℕ) → n ≡ countRows rowLimit s → every (λ x. eqb x 0) s ≡ false → Tests n ≡ true → none ≡ structureFault (storeDocument n s)
-      → OpenedIs (openedFixed s) s (Opened.Rows n)
-  unfolding openedFixed isEmpty
-  store-opens n e z t f =
+  pub tests-pass : (n : ℕ) → n ≡ countRows rowLimit s → Tests n ≡ true → none ≡ structureFault (storeDocument n s) → false ≡ unsound s
+  tests-pass n e t f =
       let q : structureFault (decode s) ≡ none = ap structureFault (sym (document-is n e)) ∙ sym f in
-      let u : unsound s ≡ false = sound-test s size ∙ rw (q, tests-are n e, t) in
-      rw (z, u, openedFixed) (record { document-is = refl; answer-is = ap Opened.Rows e })
+      sym (sound-test s size ∙ rw (q, tests-are n e, t))
 
 -- ---- a store at the head of a slice
 

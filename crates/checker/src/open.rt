@@ -8,7 +8,7 @@ ghost use Rattle.checker.specs.declared.open.Opened.{Opened};
 ghost use lib.ListN.{length, take};
 ghost use Rattle.format.specs.Refusals.{refusal};
 ghost use Rattle.calls.specs.Layout.{storeSize};
-ghost use Rattle.calls.specs.Calls.{openedFixed, opened};
+ghost use Rattle.calls.specs.Calls.{unsound, openedFixed, opened};
 ghost use Rattle.checker.specs.Opening.{OpenedIs};
 
 // The store of a call: how many rows it has, or why it is refused.
@@ -27,6 +27,21 @@ fn refuse_store(reason: Reason) -> Opened
     })
 }
 
+// 22: whether no load leaves these bytes, the length limit set aside.
+fn is_unsound(fixed: &[u8]) -> bool
+    requires { ⌜ length (now fixed) ≡ storeSize ⌝ }
+    ensures { λ b. ⌜ b ≡ unsound (now (fixed .entry)) ⌝ }
+{
+    let rows = opening::count_rows(fixed);
+    if opening::canonical(fixed, rows) {
+        let Structure::Sound = structure::structure_fault(fixed, rows) else {
+            return true;
+        };
+        return false;
+    }
+    true
+}
+
 // 21 and 22 of a store's fixed size.
 fn open_fixed(fixed: &[u8]) -> Opened
     requires { ⌜ length (now fixed) ≡ storeSize ⌝ }
@@ -35,14 +50,10 @@ fn open_fixed(fixed: &[u8]) -> Opened
     if opening::all_zero(fixed) {
         return refuse_store(Reason::StoreEmpty);
     }
-    let rows = opening::count_rows(fixed);
-    if opening::canonical(fixed, rows) {
-        let Structure::Sound = structure::structure_fault(fixed, rows) else {
-            return refuse_store(Reason::StoreUnsound);
-        };
-        return Opened::Rows(rows);
+    if is_unsound(fixed) {
+        return refuse_store(Reason::StoreUnsound);
     }
-    refuse_store(Reason::StoreUnsound)
+    Opened::Rows(opening::count_rows(fixed))
 }
 
 // 20, 21 and 22 of a store, at the head of a slice.
