@@ -23,9 +23,9 @@ use Rattle.calls.proofs.Canonical.{rows-decoded}
 use Rattle.text.specs.Write.{Wrote}
 use Rattle.store.specs.Rows.{storeRow, storeProgram}
 use Rattle.writing.specs.Texts.{storedDocument}
-use Rattle.checker.specs.declared.open.Opened.{Opened}
-use Rattle.checker.specs.Loading.{Leaves}
-use Rattle.checker.specs.Opening.{Opens, OpenedIs}
+use Rattle.entry.specs.declared.Opened.{Opened}
+use Rattle.filing.specs.Loading.{Leaves}
+use Rattle.entry.specs.Opening.{Opens, OpenedIs}
 
 -- the document of as many rows as are counted is that of the bytes
 stored-is : (s : Bytes) (n : ℕ) → n ≡ countRows rowLimit s → storedDocument n s ≡ decode s

@@ -6,7 +6,7 @@ use Rattle.checker.proofs.write.Statement.{statement}
 use Rattle.checker.proofs.write.Tie as tie
 use Rattle.checker.proofs.write.Reads as reads
 use Rattle.checker.proofs.write.Lts as lts
-use Rattle.checker.proofs.open.open.Reads as open-reads
+use Rattle.entry.proofs.open.Reads as open-reads
 use Rattle.writing.proofs.document_length.Reads as document-length-reads
 use Rattle.writing.proofs.put_document.Reads as put-document-reads
 

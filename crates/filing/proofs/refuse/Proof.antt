@@ -1,9 +1,9 @@
 use borrow.Author.Needs.{needs}
-use Rattle.checker.proofs.Files.{emptied}
-use Rattle.checker.proofs.refuse.Statement.{statement}
-use Rattle.checker.proofs.refuse.Tie as tie
-use Rattle.checker.proofs.refuse.Reads as reads
-use Rattle.checker.proofs.refuse.Lts as lts
+use Rattle.filing.proofs.Files.{emptied}
+use Rattle.filing.proofs.refuse.Statement.{statement}
+use Rattle.filing.proofs.refuse.Tie as tie
+use Rattle.filing.proofs.refuse.Reads as reads
+use Rattle.filing.proofs.refuse.Lts as lts
 use Rattle.store.proofs.clear.Reads as clear-reads
 
 -- src/lib.rt:24:5

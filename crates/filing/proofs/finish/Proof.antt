@@ -1,12 +1,12 @@
 use borrow.Author.Needs.{needs}
 use mathlib.Core.Path.{sym, ap, _∙_}
 use Rattle.structure.specs.Answer.{structureRead}
-use Rattle.checker.proofs.Files.{finish-refused, finish-sound}
-use Rattle.checker.proofs.finish.Statement.{statement}
-use Rattle.checker.proofs.finish.Tie as tie
-use Rattle.checker.proofs.finish.Reads as reads
-use Rattle.checker.proofs.finish.Lts as lts
-use Rattle.checker.proofs.refuse.Reads as refuse-reads
+use Rattle.filing.proofs.Files.{finish-refused, finish-sound}
+use Rattle.filing.proofs.finish.Statement.{statement}
+use Rattle.filing.proofs.finish.Tie as tie
+use Rattle.filing.proofs.finish.Reads as reads
+use Rattle.filing.proofs.finish.Lts as lts
+use Rattle.filing.proofs.refuse.Reads as refuse-reads
 use Rattle.structure.proofs.structure_fault.Reads as structure-fault-reads
 
 -- src/lib.rt:34:16

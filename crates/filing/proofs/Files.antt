@@ -40,7 +40,7 @@ use Rattle.structure.specs.declared.Structure.the-variants.{Sound, Refused}
 use Rattle.structure.specs.Answer.{structureRead}
 use Rattle.structure.specs.Lines.{storeDocument}
 use Rattle.structure.proofs.Checking.{document-decodes}
-use Rattle.checker.specs.Loading.{Leaves, Finishes}
+use Rattle.filing.specs.Loading.{Leaves, Finishes}
 
 -- ---- the rows at the head of a slice
 

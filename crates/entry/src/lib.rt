@@ -4,12 +4,12 @@ use format::Refusal;
 use store::Store;
 use structure::Structure;
 ghost use mathlib.Core.Path.{_≡_};
-ghost use Rattle.checker.specs.declared.open.Opened.{Opened};
+ghost use Rattle.entry.specs.declared.Opened.{Opened};
 ghost use lib.ListN.{length, take};
 ghost use Rattle.format.specs.Refusals.{refusal};
 ghost use Rattle.calls.specs.Layout.{storeSize};
 ghost use Rattle.calls.specs.Calls.{unsound, openedFixed, opened};
-ghost use Rattle.checker.specs.Opening.{OpenedIs};
+ghost use Rattle.entry.specs.Opening.{OpenedIs};
 
 // The store of a call: how many rows it has, or why it is refused.
 pub enum Opened {

@@ -23,8 +23,8 @@ use Rattle.calls.proofs.Canonical.{rows-decoded, sound-test}
 use Rattle.store.specs.Rows.{storeRow, storeProgram}
 use Rattle.structure.specs.Lines.{storeDocument}
 use Rattle.structure.proofs.Checking.{document-decodes}
-use Rattle.checker.specs.declared.open.Opened.{Opened}
-use Rattle.checker.specs.Opening.{Opens, OpenedIs}
+use Rattle.entry.specs.declared.Opened.{Opened}
+use Rattle.entry.specs.Opening.{Opens, OpenedIs}
 
 module _ (s : Bytes) (size : length s ≡ storeSize) where
   abbrev rows : ℕ

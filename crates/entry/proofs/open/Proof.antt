@@ -2,14 +2,14 @@
 use mathlib.Core.Path.{sym}
 use lib.Seq.{length-take-le}
 use Rattle.calls.specs.Layout.{storeSize}
-use Rattle.checker.proofs.Opening.{too-short-refused, fixed-opened}
+use Rattle.entry.proofs.Opening.{too-short-refused, fixed-opened}
 use borrow.Author.Needs.{needs}
-use Rattle.checker.proofs.open.open.Statement.{statement}
-use Rattle.checker.proofs.open.open.Tie as tie
-use Rattle.checker.proofs.open.open.Reads as reads
-use Rattle.checker.proofs.open.open.Lts as lts
-use Rattle.checker.proofs.open.open_fixed.Reads as open-fixed-reads
-use Rattle.checker.proofs.open.refuse_store.Reads as refuse-store-reads
+use Rattle.entry.proofs.open.Statement.{statement}
+use Rattle.entry.proofs.open.Tie as tie
+use Rattle.entry.proofs.open.Reads as reads
+use Rattle.entry.proofs.open.Lts as lts
+use Rattle.entry.proofs.open_fixed.Reads as open-fixed-reads
+use Rattle.entry.proofs.refuse_store.Reads as refuse-store-reads
 
 -- src/open.rt:53:9
 refuse-store-requires : tie.Need-refuse-store-requires

@@ -1,12 +1,12 @@
 -- `is_unsound` meets its contract: the tests of the bytes, then those of the structure.
 use mathlib.Core.Path.{sym, ap, _∙_}
 use Rattle.structure.specs.Answer.{structureRead}
-use Rattle.checker.proofs.Opening.{tests-refuse, structure-refuses, tests-pass}
+use Rattle.entry.proofs.Opening.{tests-refuse, structure-refuses, tests-pass}
 use borrow.Author.Needs.{needs}
-use Rattle.checker.proofs.open.is_unsound.Statement.{statement}
-use Rattle.checker.proofs.open.is_unsound.Tie as tie
-use Rattle.checker.proofs.open.is_unsound.Reads as reads
-use Rattle.checker.proofs.open.is_unsound.Lts as lts
+use Rattle.entry.proofs.is_unsound.Statement.{statement}
+use Rattle.entry.proofs.is_unsound.Tie as tie
+use Rattle.entry.proofs.is_unsound.Reads as reads
+use Rattle.entry.proofs.is_unsound.Lts as lts
 use Rattle.opening.proofs.canonical.Reads as canonical-reads
 use Rattle.opening.proofs.count_rows.Reads as count-rows-reads
 use Rattle.structure.proofs.structure_fault.Reads as structure-fault-reads

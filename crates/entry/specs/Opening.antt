@@ -7,7 +7,7 @@ use Rattle.format.specs.Refusals.{Result, refused, accepted}
 use Rattle.format.specs.Document.{Document}
 use Rattle.calls.specs.Canonical.{countRows}
 use Rattle.calls.specs.Layout.{decode}
-use Rattle.checker.specs.declared.open.Opened.{Opened}
+use Rattle.entry.specs.declared.Opened.{Opened}
 
 -- a store that opens: its rows are counted, and its document is the one of its bytes
 pub record Opens (d : Document) (fixed : Bytes) (answer : Opened) : Type 0 where

@@ -1,12 +1,12 @@
 use borrow.Author.Needs.{needs}
 use denote.Ref.{now}
-use Rattle.checker.proofs.Files.{too-long, no-lines-stored, cleared-long, lines-refused, lines-accepted, rows-small}
-use Rattle.checker.proofs.load_file.Statement.{statement}
-use Rattle.checker.proofs.load_file.Tie as tie
-use Rattle.checker.proofs.load_file.Reads as reads
-use Rattle.checker.proofs.load_file.Lts as lts
-use Rattle.checker.proofs.finish.Reads as finish-reads
-use Rattle.checker.proofs.refuse.Reads as refuse-reads
+use Rattle.filing.proofs.Files.{too-long, no-lines-stored, cleared-long, lines-refused, lines-accepted, rows-small}
+use Rattle.filing.proofs.load_file.Statement.{statement}
+use Rattle.filing.proofs.load_file.Tie as tie
+use Rattle.filing.proofs.load_file.Reads as reads
+use Rattle.filing.proofs.load_file.Lts as lts
+use Rattle.filing.proofs.finish.Reads as finish-reads
+use Rattle.filing.proofs.refuse.Reads as refuse-reads
 use Rattle.loading.proofs.load_lines.Reads as load-lines-reads
 use Rattle.store.proofs.clear.Reads as clear-reads
 

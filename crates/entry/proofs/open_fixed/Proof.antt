@@ -1,13 +1,13 @@
 -- `open_fixed` meets its contract: 21, then 22, then the rows that are counted.
 use mathlib.Core.Path.{sym, _∙_}
-use Rattle.checker.proofs.Opening.{empty-refused, unsound-refused, store-opens}
+use Rattle.entry.proofs.Opening.{empty-refused, unsound-refused, store-opens}
 use borrow.Author.Needs.{needs}
-use Rattle.checker.proofs.open.open_fixed.Statement.{statement}
-use Rattle.checker.proofs.open.open_fixed.Tie as tie
-use Rattle.checker.proofs.open.open_fixed.Reads as reads
-use Rattle.checker.proofs.open.open_fixed.Lts as lts
-use Rattle.checker.proofs.open.is_unsound.Reads as is-unsound-reads
-use Rattle.checker.proofs.open.refuse_store.Reads as refuse-store-reads
+use Rattle.entry.proofs.open_fixed.Statement.{statement}
+use Rattle.entry.proofs.open_fixed.Tie as tie
+use Rattle.entry.proofs.open_fixed.Reads as reads
+use Rattle.entry.proofs.open_fixed.Lts as lts
+use Rattle.entry.proofs.is_unsound.Reads as is-unsound-reads
+use Rattle.entry.proofs.refuse_store.Reads as refuse-store-reads
 use Rattle.opening.proofs.all_zero.Reads as all-zero-reads
 use Rattle.opening.proofs.count_rows.Reads as count-rows-reads
 

@@ -1,3 +1,0 @@
--- What the calls promise.
-pub mod Loading
-pub mod Opening
