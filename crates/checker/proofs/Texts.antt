@@ -26,6 +26,7 @@ use Rattle.writing.specs.Texts.{storedDocument}
 use Rattle.entry.specs.declared.Opened.{Opened}
 use Rattle.filing.specs.Loading.{Leaves}
 use Rattle.entry.specs.Opening.{Opens, OpenedIs}
+use Rattle.entry.proofs.Opening.{refused-is, opens-is}
 
 -- the document of as many rows as are counted is that of the bytes
 stored-is : (s : Bytes) (n : ℕ) → n ≡ countRows rowLimit s → storedDocument n s ≡ decode s
@@ -38,10 +39,6 @@ at-head text out l =
     let q : 0 + length text ≡ length text = omega arith in
     sets-eq text out 0 (omega (arith, l)) ∙ ap (λ (k : ℕ). text ++ drop k out) q
 
-short-store : (store : Bytes) → ltb (length store) storeSize ≡ true → opened store ≡ refused (refusal StoreTooShort 0)
-unfolding opened
-short-store store e = rw (e, opened)
-
 module _ (store out : Bytes) where
   abbrev fixed : Bytes
   fixed = take storeSize store
@@ -51,29 +48,10 @@ module _ (store out : Bytes) where
 
   pub refused-store : (r : Refusal) → OpenedIs (opened store) fixed (Opened.Refused r) → Leaves (write store out) (WriteAnswer.Refused r) out
   unfolding write andThen written
-  refused-store r h = go (opened store) refl h
-    where
-      go : (x : Result Document) → opened store ≡ x → OpenedIs x fixed (Opened.Refused r) → Leaves (write store out) (WriteAnswer.Refused r) out
-      go (refused q) e k = let same : r ≡ q = cc in rw (e, ← same) (record { answer-is = refl; bytes-are = refl })
-      go (accepted d) e k = let w = k .answer-is in let z : _≡_ {A = ℕ} 0 1 = cc in absurd (omega arith)
-
-  -- a store that opens is long enough
-  pub opens-long : (n : ℕ) → OpenedIs (opened store) fixed (Opened.Rows n) → storeSize ≤ length store
-  opens-long n h = go (ltb (length store) storeSize) refl
-    where
-      go : (b : Bool) → ltb (length store) storeSize ≡ b → storeSize ≤ length store
-      go true e = let k = subst (λ (x : Result Document). OpenedIs x fixed (Opened.Rows n)) (short-store store e) h in let z : _≡_ {A = ℕ} 0 1 = cc in absurd (omega arith)
-      go false e = ltb-false (length store) storeSize e
+  refused-store r h = rw (refused-is fixed (opened store) r h) (record { answer-is = refl; bytes-are = refl })
 
   opens-to : (n : ℕ) → OpenedIs (opened store) fixed (Opened.Rows n) → (d : Document) × (opened store ≡ accepted d) × (documentText d ≡ text n)
-  opens-to n h = go (opened store) refl h
-    where
-      go : (x : Result Document) → opened store ≡ x → OpenedIs x fixed (Opened.Rows n) → (d : Document) × (opened store ≡ accepted d) × (documentText d ≡ text n)
-      go (refused q) e k = let z : _≡_ {A = ℕ} 0 1 = cc in absurd (omega arith)
-      go (accepted d) e k =
-          let w = k .answer-is in
-          let same : n ≡ countRows rowLimit fixed = cc in
-          (d, e, ap documentText (k .document-is ∙ sym (stored-is fixed n same)))
+  opens-to n h = let (e, same) = opens-is fixed (opened store) n h in (decode fixed, e, ap documentText (sym (stored-is fixed n same)))
 
   pub no-room : (n m : ℕ) → OpenedIs (opened store) fixed (Opened.Rows n) → m ≡ length (text n) → length out < m → Leaves (write store out) (WriteAnswer.Refused (refusal OutputTooShort 0)) out
   unfolding write andThen written

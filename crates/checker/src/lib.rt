@@ -1,11 +1,15 @@
 // The checker's calls.
+use calls::JudgeAnswer;
 use calls::LoadAnswer;
+use calls::VerdictAnswer;
+use calls::VerdictStatus;
 use calls::WriteAnswer;
 use entry::Opened;
 use format::Reason;
 use format::Refusal;
 use store::Store;
-ghost use Rattle.calls.specs.Calls.{load, write};
+ghost use mathlib.Core.Path.{_≡_};
+ghost use Rattle.calls.specs.Calls.{load, judge, verdict, write};
 ghost use Rattle.filing.specs.Loading.{Leaves};
 
 // Loads a file into the lent store: its counts, or refusals 20 and 1 to 9.
@@ -19,6 +23,29 @@ pub fn load(file: &[u8], store: &mut [u8]) -> LoadAnswer
         });
     }
     filing::load_file(file, store)
+}
+
+// Judges a store: the count of its claims, all of which hold, or refusals 20 to 22, 10 and 11.
+pub fn judge(store: &[u8]) -> JudgeAnswer
+    ensures { λ a. ⌜ a ≡ judge (now (store .entry)) ⌝ }
+{
+    match entry::open(store) {
+        Opened::Refused(refusal) => JudgeAnswer::Refused(refusal),
+        Opened::Rows(rows) => judging::judge_rows(&store[..Store::SIZE], rows),
+    }
+}
+
+// The verdict of a channel: its four words, or refusals 20 to 22, 24 and 10.
+pub fn verdict(store: &[u8], channel: usize) -> VerdictAnswer
+    ensures { λ a. ⌜ a ≡ verdict (now (store .entry)) channel ⌝ }
+{
+    match entry::open(store) {
+        Opened::Refused(refusal) => VerdictAnswer {
+            status: VerdictStatus::Refused(refusal),
+            words: [false, false, false, false],
+        },
+        Opened::Rows(rows) => judging::verdict_rows(&store[..Store::SIZE], rows, channel),
+    }
 }
 
 // Writes the text of a store into the lent output: its length, or refusals 20 to 23.

@@ -7,7 +7,7 @@ use mathlib.Core.Path.{_≡_, refl, sym, ap, _∙_, subst}
 use lib.ListN.{length, take, drop}
 use lib.Seq.{take-all}
 use lib.Dec.{ltb, eqb}
-use borrow.Author.Tests.{lt-ltb, le-ltb}
+use borrow.Author.Tests.{lt-ltb, le-ltb, ltb-false}
 use Rattle.program.specs.Each.{every}
 use Rattle.format.specs.declared.Refusal.{Refusal}
 use Rattle.format.specs.declared.Reason.the-variants.{StoreTooShort, StoreEmpty, StoreUnsound}
@@ -87,3 +87,26 @@ too-short-refused s l = rw (lt-ltb (length s) storeSize l, opened) refl
 pub fixed-opened : (s : Bytes) (o : Opened) → storeSize ≤ length s → OpenedIs (openedFixed (take storeSize s)) (take storeSize s) o → OpenedIs (opened s) (take storeSize s) o
 unfolding opened
 fixed-opened s o l h = rw (le-ltb (length s) storeSize l, opened) h
+
+-- ---- what the answer tells of the store
+
+module _ (fixed : Bytes) where
+  pub refused-is : (x : Result Document) (r : Refusal) → OpenedIs x fixed (Opened.Refused r) → x ≡ refused r
+  refused-is (refused q) r h = let same : r ≡ q = cc in rw (← same)
+  refused-is (accepted d) r h = let w = h .answer-is in let z : _≡_ {A = ℕ} 0 1 = cc in absurd (omega arith)
+
+  pub opens-is : (x : Result Document) (n : ℕ) → OpenedIs x fixed (Opened.Rows n) → (x ≡ accepted (decode fixed)) × (n ≡ countRows rowLimit fixed)
+  opens-is (refused q) n h = let z : _≡_ {A = ℕ} 0 1 = cc in absurd (omega arith)
+  opens-is (accepted d) n h = let w = h .answer-is in let same : n ≡ countRows rowLimit fixed = cc in (ap accepted (h .document-is), same)
+
+short-store : (store : Bytes) → ltb (length store) storeSize ≡ true → opened store ≡ refused (refusal StoreTooShort 0)
+unfolding opened
+short-store store e = rw (e, opened)
+
+-- a store that opens is long enough
+pub opens-long : (store : Bytes) (n : ℕ) → OpenedIs (opened store) (take storeSize store) (Opened.Rows n) → storeSize ≤ length store
+opens-long store n h = go (ltb (length store) storeSize) refl
+  where
+    go : (b : Bool) → ltb (length store) storeSize ≡ b → storeSize ≤ length store
+    go true e = let k = subst (λ (x : Result Document). OpenedIs x (take storeSize store) (Opened.Rows n)) (short-store store e) h in let z : _≡_ {A = ℕ} 0 1 = cc in absurd (omega arith)
+    go false e = ltb-false (length store) storeSize e

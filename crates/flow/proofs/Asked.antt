@@ -21,10 +21,11 @@ use Rattle.tables.specs.Tables.{storeFlow, storeComm}
 use Rattle.flow.specs.declared.channels.Demand.{Demand}
 use Rattle.flow.specs.declared.rules.Ask.{Ask}
 use Rattle.flow.specs.Sets.{Marks, setOf}
-use Rattle.flow.specs.Rules.{formIn, meets, sendDemand, chanTest, sendTest, recvTest, asks, syncTest, storeAsks}
+use Rattle.forms.specs.Forms.{formIn}
+use Rattle.flow.specs.Rules.{meets, sendDemand, chanTest, sendTest, recvTest, asks, syncTest, storeAsks}
 use Rattle.flow.proofs.Tests.{implies-and, all-same, all-and, all-false}
 use Rattle.flow.proofs.Members.{marks-lies}
-use Rattle.flow.proofs.Forms.{isChan, chan-at, every-form}
+use Rattle.forms.proofs.Forms.{isChan, chan-at, every-form}
 
 -- ---- the channels of a row: they all meet a demand exactly if they lie in the set of the rows that meet it
 

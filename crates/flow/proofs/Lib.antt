@@ -1,5 +1,5 @@
 -- Laws about the definitions of specs/.
 pub mod Tests
 pub mod Members
-pub mod Forms
+pub mod Results
 pub mod Asked

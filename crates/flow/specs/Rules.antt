@@ -3,8 +3,6 @@ use Prim.Native.Nat.{ℕ}
 use mathlib.Core.Bool.{Bool, true, false, _&&_}
 use mathlib.Core.Option.{Option, none, some}
 use mathlib.Core.Path.{_≡_}
-use Rattle.program.specs.declared.Row.{Row}
-use Rattle.program.specs.declared.Form.{Form}
 use Rattle.program.specs.Maybe.{when}
 use Rattle.program.specs.Program.{Program, chanAt, sendAt, recvAt, pairAt, leftAt, rightAt, funAt, resultName}
 use Rattle.program.specs.Flow.{u, Set, Table, lies, forEach, forEachChan}
@@ -20,11 +18,6 @@ use Rattle.flow.specs.Sets.{Marks}
 unfoldable pub rowOr : Option ℕ → ℕ
 rowOr none = rowLimit
 rowOr (some r) = r
-
--- the form of a row; of a result, unit, which holds no name and no row
-unfoldable pub formIn : Row → Form
-formIn (Row.Result n) = Form.Unit
-formIn (Row.Bind b) = b .form
 
 -- a byte for each row: the name of the result reached from it
 unfoldable pub Names : Program → Bytes → Type 0

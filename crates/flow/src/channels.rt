@@ -1,9 +1,9 @@
 // What is asked of the channels of a send or recv row.
-use crate::rows::form_at;
 use crate::sets::comm_lies;
 use crate::sets::flow_lies;
 use crate::sets::flow_set;
 use crate::sets::lies_in_comm;
+use forms::form_at;
 use program::Form;
 use store::Store;
 ghost use mathlib.Core.Path.{_≡_};

@@ -1,33 +1,12 @@
-// The rows of the program in a store: their forms, and the results that they come to.
-use program::Form;
+// The results that the rows of the program in a store come to.
+use forms::row_in;
 use program::Row;
 use store::Store;
-use store::row_at;
 ghost use mathlib.Core.Path.{_≡_};
-ghost use Rattle.program.specs.Program.{rowAt, nameOf, resultName};
+ghost use Rattle.program.specs.Program.{nameOf, resultName};
 ghost use Rattle.store.specs.Rows.{storeProgram};
 ghost use Rattle.flow.specs.Sets.{Sized};
-ghost use Rattle.flow.specs.Rules.{formIn, Names};
-
-// Row r of the program, and past the last one a result.
-pub fn row_in(store: &[u8], rows: u8, r: u8) -> Row
-    ensures { λ y. ⌜ y ≡ rowAt (storeProgram rows (now (store .entry))) r ⌝ }
-{
-    if rows <= r {
-        return Row::Result(0);
-    }
-    row_at(store, r)
-}
-
-// The form of a row; of a result, unit, which holds no name and no row.
-pub fn form_at(store: &[u8], rows: u8, r: u8) -> Form
-    ensures { λ f. ⌜ f ≡ formIn (rowAt (storeProgram rows (now (store .entry))) r) ⌝ }
-{
-    match row_in(store, rows, r) {
-        Row::Result(_) => Form::Unit,
-        Row::Bind(b) => b.form,
-    }
-}
+ghost use Rattle.flow.specs.Rules.{Names};
 
 // The name of a row: that of a result, or the one that a bind binds.
 fn name_of(row: Row) -> u8

@@ -1,8 +1,8 @@
 // The rule of a form: what it asks of each row in its set.
-use crate::rows::form_at;
 use crate::sets::flow_lies;
 use crate::sets::flow_set;
 use crate::sets::has_row;
+use forms::form_at;
 use program::Form;
 ghost use mathlib.Core.Bool.{_&&_};
 ghost use mathlib.Core.Path.{_≡_};

@@ -1,9 +1,9 @@
--- The rows of a program in a store: past the last one there is a result, and a result row is found by following rests.
+-- The rows of a program in a store: a result row is found by following rests.
 use Prim.Native.Nat.{ℕ, zero, suc, _+_, _-_, _≤_, _<_}
 use native.Mathlib.Omega.{arith}
 use native.Mathlib.Decide.{ℕ-discrete}
 use mathlib.Core.Path.{_≡_, refl, _∙_}
-use lib.ListN.{length, getD, set, List·getD-eq-default}
+use lib.ListN.{length, getD, set}
 use lib.Seq.{getD-set-same, getD-set-other}
 use Rattle.program.specs.declared.Row.{Row}
 use Rattle.program.specs.declared.Bind.{Bind}
@@ -13,10 +13,6 @@ use Rattle.store.specs.Rows.{storeProgram}
 use Rattle.store.proofs.Laws.{program-length}
 
 module _ (n : ℕ) (s : Bytes) where
-  pub row-past : (r : ℕ) → n ≤ r → rowAt (storeProgram n s) r ≡ Row.Result 0
-  unfolding rowAt
-  row-past r l = List·getD-eq-default (storeProgram n s) (Row.Result 0) {n = r} (rw program-length l)
-
   pub result-steps : (t : ℕ) → resultFrom n (storeProgram n s) t ≡ resultRow (storeProgram n s) t
   unfolding resultRow
   result-steps t = rw program-length

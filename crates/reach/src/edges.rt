@@ -1,15 +1,15 @@
 // The row steps of a program in a store, marked in a grid: for each row those that it gives, from itself and from the
 // results of what it calls.
+use forms::row_in;
 use program::Form;
 use program::Row;
 use store::Store;
-use store::row_at;
 use tables::flow_flag;
 ghost use mathlib.Core.Path.{_≡_};
 ghost use mathlib.Core.Bool.{false};
 ghost use Prim.Native.Nat.{_<_, _≤_};
 ghost use lib.ListN.{length};
-ghost use Rattle.program.specs.Program.{rowAt, resultRow};
+ghost use Rattle.program.specs.Program.{resultRow};
 ghost use Rattle.program.specs.Walk.{edge};
 ghost use Rattle.format.specs.Limits.{rowLimit};
 ghost use Rattle.store.specs.Rows.{storeProgram};
@@ -25,16 +25,6 @@ pub enum Kind {
     Fork { child: u8, rest: u8 },
     Branch { left: u8, right: u8, rest: u8 },
     Call { function: u8, rest: u8 },
-}
-
-// Row r of the first rows; past them a result, which steps nowhere.
-fn program_row(store: &[u8], rows: u8, r: u8) -> Row
-    ensures { λ x. ⌜ x ≡ rowAt (storeProgram rows (now (store .entry))) r ⌝ }
-{
-    if rows <= r {
-        return Row::Result(0);
-    }
-    row_at(store, r)
 }
 
 // The kind of a bind.
@@ -95,7 +85,7 @@ fn kind_of(form: Form, rest: u8) -> Kind
 fn kind_at(store: &[u8], rows: u8, r: u8) -> Kind
     ensures { λ k. ⌜ k ≡ kindAt (storeProgram rows (now (store .entry))) r ⌝ }
 {
-    match program_row(store, rows, r) {
+    match row_in(store, rows, r) {
         Row::Result(_) => Kind::End,
         Row::Bind(b) => {
             let form = b.form;
@@ -111,7 +101,7 @@ pub fn result_row(store: &[u8], rows: u8, t: u8) -> u8
     let mut r = t;
     let mut left = rows;
     while 0 < left {
-        let Row::Bind(b) = program_row(store, rows, r) else {
+        let Row::Bind(b) = row_in(store, rows, r) else {
             return r;
         };
         r = b.rest;

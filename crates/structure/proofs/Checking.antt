@@ -104,7 +104,7 @@ module _ (s keys members : Bytes) (base : ℕ) where
   unfolding decodeSets checked
   sets-end line n l = let q : rowLimit - n ≡ 0 = omega arith in rw q
 
-sets-count : (k n : ℕ) (bs : Bytes) → length (decodeSets k n bs) ≤ k
+pub sets-count : (k n : ℕ) (bs : Bytes) → length (decodeSets k n bs) ≤ k
 unfolding decodeSets withEntry
 sets-count zero n bs = omega arith
 sets-count (suc k) n bs = go (membersFrom 0 (take memberLimit bs)) _ (sets-count k (suc n) (drop memberLimit bs))
@@ -130,29 +130,29 @@ claims-step s i k c = go (decLt i (length s))
 abbrev pub claimsOn : Bytes → ℕ → ℕ → List Claim
 claimsOn s base c = decodeClaims c (take (rowLimit - c) (drop (base + c) s))
 
+pub claims-next : (s : Bytes) (base c : ℕ) → c < rowLimit → claimsOn s base c
+    ≡ pick (eqb (byteAt s (base + c)) 0) (claimsOn s base (c + 1)) (record { channel = c; word = wordOf (byteAt s (base + c)) } ∷ claimsOn s base (c + 1))
+claims-next s base c l =
+    let q : rowLimit - c ≡ suc (rowLimit - (c + 1)) = omega arith in
+    let e : base + c + 1 ≡ base + (c + 1) = omega arith in
+    rw (q, claims-step s (base + c) (rowLimit - (c + 1)) c, e)
+
 module _ (s keys : Bytes) (base : ℕ) where
   pub claims-start : (line : ℕ) → checked (claimMarked keys) line (claimsOn s base 0) ≡ checked (claimMarked keys) line (decodeClaims 0 (take rowLimit (drop base s)))
   claims-start line = rw add-zero
 
   module _ (line c : ℕ) (l : c < rowLimit) where
-    claims-next : claimsOn s base c
-        ≡ pick (eqb (byteAt s (base + c)) 0) (claimsOn s base (c + 1)) (record { channel = c; word = wordOf (byteAt s (base + c)) } ∷ claimsOn s base (c + 1))
-    claims-next =
-        let q : rowLimit - c ≡ suc (rowLimit - (c + 1)) = omega arith in
-        let e : base + c + 1 ≡ base + (c + 1) = omega arith in
-        rw (q, claims-step s (base + c) (rowLimit - (c + 1)) c, e)
-
     pub claims-none : byteAt s (base + c) ≡ 0 → checked (claimMarked keys) line (claimsOn s base c) ≡ checked (claimMarked keys) line (claimsOn s base (c + 1))
-    claims-none h = rw (claims-next, h)
+    claims-none h = rw (claims-next s base c l, h)
 
     pub claims-failing : (byteAt s (base + c) ≡ 0 → ⊥) → byteAt keys c ≡ 0 → checked (claimMarked keys) line (claimsOn s base c) ≡ Failing line
     unfolding checked claimMarked
-    claims-failing h k = rw (claims-next, ne-eqb (byteAt s (base + c)) 0 h, k)
+    claims-failing h k = rw (claims-next s base c l, ne-eqb (byteAt s (base + c)) 0 h, k)
 
     pub claims-passing : (byteAt s (base + c) ≡ 0 → ⊥) → (byteAt keys c ≡ 0 → ⊥)
         → checked (claimMarked keys) line (claimsOn s base c) ≡ checked (claimMarked keys) (line + 1) (claimsOn s base (c + 1))
     unfolding checked claimMarked
-    claims-passing h k = rw (claims-next, ne-eqb (byteAt s (base + c)) 0 h, ne-eqb (byteAt keys c) 0 k)
+    claims-passing h k = rw (claims-next s base c l, ne-eqb (byteAt s (base + c)) 0 h, ne-eqb (byteAt keys c) 0 k)
 
   pub claims-end : (line c : ℕ) → rowLimit ≤ c → checked (claimMarked keys) line (claimsOn s base c) ≡ All line
   unfolding decodeClaims checked

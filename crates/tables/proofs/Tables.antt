@@ -3,7 +3,8 @@ use Prim.Native.Nat.{ℕ, zero, suc, _+_, _*_, _≤_, _<_}
 use native.Mathlib.Omega.{arith}
 use native.Mathlib.Nat.{zero-add}
 use native.Mathlib.Decide.{decLt}
-use mathlib.Core.Bool.{true, false}
+use native.Mathlib.Numerals.{add-one}
+use mathlib.Core.Bool.{Bool, true, false}
 use mathlib.Core.List.{List, [], _∷_}
 use mathlib.Core.Path.{_≡_, refl, _∙_, fun-ext}
 use lib.ListN.{getD, take, drop, length-take, List·getD-eq-default}
@@ -12,10 +13,11 @@ use lib.Dec.{ltb, leb, eqb}
 use borrow.Author.Tests.{eq-eqb, ne-eqb, lt-ltb, eqb-true, eqb-false, le-leb, lt-leb}
 use Rattle.program.specs.Test.{pick}
 use Rattle.program.specs.Each.{elem}
+use Rattle.program.specs.Flow.{row}
 use Rattle.format.specs.Limits.{rowLimit}
 use Rattle.format.specs.Text.{Bytes}
 use Rattle.format.specs.Document.{Entry, member, membersAt, tableOf}
-use Rattle.calls.specs.Layout.{memberLimit, rowsSize, setsSize, membersFrom, withEntry, decodeSets}
+use Rattle.calls.specs.Layout.{flowAt, memberLimit, rowsSize, setsSize, membersFrom, withEntry, decodeSets}
 use Rattle.calls.proofs.Codec.Sparse.{either}
 use Rattle.tables.specs.Tables.{flagAt, flowFlag, commFlag, storeFlow, storeComm}
 
@@ -118,3 +120,21 @@ flow-table s = fun-ext λ n. fun-ext λ a. sets-table s rowLimit rowsSize n (mem
 pub comm-table : (s : Bytes) → tableOf (decodeSets rowLimit 0 (drop setsSize (drop rowsSize s))) ≡ storeComm s
 unfolding tableOf storeComm commFlag flagAt
 comm-table s = fun-ext λ n. fun-ext λ a. rw drop-drop (sets-table s rowLimit (rowsSize + setsSize) n (member a))
+
+-- ---- a row in the set of a name
+
+flag-past : (s : Bytes) (position : ℕ → ℕ) (n m : ℕ) → memberLimit ≤ m → flagAt s position n m ≡ 0
+unfolding flagAt
+flag-past s position n m l = rw (le-leb memberLimit m l) (go (leb rowLimit n))
+  where
+    go : (b : Bool) → _≡_ {A = ℕ} (pick b 0 0) 0
+    go true = refl
+    go false = refl
+
+pub row-past : (s : Bytes) (n r : ℕ) → rowLimit ≤ r → storeFlow s n (row r) ≡ false
+unfolding storeFlow flowFlag member
+row-past s n r l = rw (flag-past s flowAt n (suc r) (omega arith))
+
+pub row-flag : (s : Bytes) (n r : ℕ) → storeFlow s n (row r) ≡ ltb 0 (flowFlag s n (r + 1))
+unfolding storeFlow member
+row-flag s n r = rw (add-one r)

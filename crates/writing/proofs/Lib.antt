@@ -3,3 +3,4 @@ pub mod Progress
 pub mod Parts
 pub mod Members
 pub mod Bounds
+pub mod Counting

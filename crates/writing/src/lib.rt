@@ -15,6 +15,8 @@ mod claims; // claims.rt: claim lines
 mod rows; // rows.rt: forms, rows and their lines
 mod sets; // sets.rt: sets and their lines
 
+pub use sets::count_sets;
+
 // Writes how a line begins: a word, a number and the space behind it.
 fn put_head(out: &mut [u8], at: usize, word: &[u8], n: u16) -> usize
     requires { ⌜ Room at (headText (now word) n) ⌝ }

@@ -95,3 +95,22 @@ pub fn put_sets(out: &mut [u8], at: usize, word: &[u8], sets: &[u8]) -> usize
     }
     next
 }
+
+// How many of these sets have a member, and so a line.
+pub fn count_sets(sets: &[u8]) -> usize
+    requires { ⌜ setsSize ≤ length (now sets) ⌝ }
+    ensures { λ k. ⌜ k ≡ length (decodeSets rowLimit 0 (now (sets .entry))) ⌝ }
+{
+    let mut lines = 0;
+    let mut n = 0;
+    while n < Store::ROWS {
+        let from = n * Store::MEMBERS;
+        let to = from + Store::MEMBERS;
+        n += 1;
+        if has_member(&sets[from..to]) {
+            lines += 1;
+            continue;
+        }
+    }
+    lines
+}

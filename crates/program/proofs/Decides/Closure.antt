@@ -1,5 +1,5 @@
 -- Warshall's rounds: their grid is transitive through the rows below k, and has nothing that the first grid does not lead to.
-use Prim.Native.Nat.{ℕ, zero, suc, _+_, _≤_, _<_}
+use Prim.Native.Nat.{ℕ, zero, suc, _+_, _-_, _≤_, _<_}
 use mathlib.Core.Bool.{Bool, true, false, _&&_, _||_, So, or-false}
 use mathlib.Core.List.{List, [], _∷_}
 use mathlib.Core.Path.{_≡_, refl, sym, _∙_, ap}
@@ -17,7 +17,7 @@ getD-join (x ∷ xs) [] s = sym (or-false (getD (x ∷ xs) s false))
 getD-join (x ∷ xs) (y ∷ ys) zero = refl
 getD-join (x ∷ xs) (y ∷ ys) (suc s) = getD-join xs ys s
 
-cell-through : (k : ℕ) (g : Grid) (r s : ℕ) → cell (through k g) r s ≡ (cell g r s || (cell g r k && cell g k s))
+pub cell-through : (k : ℕ) (g : Grid) (r s : ℕ) → cell (through k g) r s ≡ (cell g r s || (cell g r k && cell g k s))
 unfolding cell through
 cell-through k g r s = ap (λ bits. getD bits s false) (List·getD-map _ g r []) ∙ go (getD (getD g r []) k false)
   where
@@ -86,9 +86,21 @@ unfolding table
 table-at zero f rest i d l = absurd (omega arith)
 table-at (suc n) f rest i d l = ⊎-elim (λ e. rw e (rw add-zero at (table-past n f (f n ∷ rest) 0 d))) (table-at n f (f n ∷ rest) i d) (below n i l)
 
-grid-cell : (n : ℕ) (f : ℕ → ℕ → Bool) (r s : ℕ) → r < n → s < n → cell (grid n f) r s ≡ f r s
+pub grid-cell : (n : ℕ) (f : ℕ → ℕ → Bool) (r s : ℕ) → r < n → s < n → cell (grid n f) r s ≡ f r s
 unfolding cell grid
 grid-cell n f r s l m = rw table-at (table-at n (f r) [] s false m)
+
+-- nothing is reached from a row past the last
+closure-past : (n : ℕ) (f : ℕ → ℕ → Bool) (k r s : ℕ) → n ≤ r → cell (closure k (grid n f)) r s ≡ false
+unfolding closure cell grid
+closure-past n f zero r s l =
+    let q : r ≡ n + (r - n) = omega arith in
+    rw (q, table-past n (λ r. table n (f r) []) [] (r - n) [])
+closure-past n f (suc k) r s l = cell-through k (closure k (grid n f)) r s ∙ rw (closure-past n f k r s l, closure-past n f k r k l)
+
+pub closed-past : (n : ℕ) (f : ℕ → ℕ → Bool) (r s : ℕ) → n ≤ r → closed n f r s ≡ false
+unfolding closed
+closed-past n f r s l = closure-past n f n r s l
 
 -- by one or more steps of a relation
 pub data Steps (f : ℕ → ℕ → Bool) (r : ℕ) : ℕ → Type 0 where

@@ -1,7 +1,7 @@
 -- `chan_passes` meets its contract: a row that is no chan row passes, and of a chan row each demand asks its own.
 use borrow.Author.Needs.{needs}
 use Rattle.flow.specs.Rules.{meets}
-use Rattle.flow.proofs.Forms.{kinds, but, no-chan}
+use Rattle.forms.proofs.Forms.{kinds, but, no-chan}
 use Rattle.flow.proofs.Asked.{chan-test}
 use Rattle.flow.proofs.channels.chan_passes.Statement.{statement}
 use Rattle.flow.proofs.channels.chan_passes.Tie as tie

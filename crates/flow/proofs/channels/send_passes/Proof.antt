@@ -3,7 +3,7 @@ use mathlib.Core.Path.{_∙_}
 use borrow.Author.Needs.{needs}
 use Rattle.program.specs.Maybe.{when}
 use Rattle.flow.specs.Rules.{sendTest}
-use Rattle.flow.proofs.Forms.{kinds, but, send-at, no-send}
+use Rattle.forms.proofs.Forms.{kinds, but, send-at, no-send}
 use Rattle.flow.proofs.Asked.{sent}
 use Rattle.flow.proofs.channels.send_passes.Statement.{statement}
 use Rattle.flow.proofs.channels.send_passes.Tie as tie

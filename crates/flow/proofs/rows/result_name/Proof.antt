@@ -3,7 +3,7 @@ use mathlib.Core.Path.{_≡_, refl, sym, _∙_}
 use borrow.Author.Needs.{needs}
 use Rattle.program.specs.Program.{resultFrom}
 use Rattle.store.specs.Rows.{storeProgram}
-use Rattle.flow.proofs.Forms.{result-step, result-reached, result-out}
+use Rattle.flow.proofs.Results.{result-step, result-reached, result-out}
 use Rattle.flow.proofs.rows.result_name.Statement.{statement}
 use Rattle.flow.proofs.rows.result_name.Tie as tie
 

@@ -7,7 +7,7 @@ use Rattle.program.specs.Program.{resultName}
 use Rattle.store.specs.Rows.{storeProgram}
 use Rattle.flow.specs.Rules.{Names}
 use Rattle.flow.proofs.Members.{Filled, filled-none, filled-more}
-use Rattle.flow.proofs.Forms.{names-filled}
+use Rattle.flow.proofs.Results.{names-filled}
 use Rattle.flow.proofs.rows.result_names.Statement.{statement}
 use Rattle.flow.proofs.rows.result_names.Tie as tie
 

@@ -3,7 +3,7 @@ use mathlib.Core.Path.{_∙_}
 use borrow.Author.Needs.{needs}
 use Rattle.program.specs.Maybe.{when}
 use Rattle.flow.specs.Rules.{Names, asks}
-use Rattle.flow.proofs.Forms.{kinds, but, fun-at, no-fun}
+use Rattle.forms.proofs.Forms.{kinds, but, fun-at, no-fun}
 use Rattle.flow.proofs.rules.apply_passes.Statement.{statement}
 use Rattle.flow.proofs.rules.apply_passes.Tie as tie
 

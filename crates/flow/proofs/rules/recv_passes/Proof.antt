@@ -2,7 +2,7 @@
 use borrow.Author.Needs.{needs}
 use Rattle.program.specs.Maybe.{when}
 use Rattle.flow.specs.Rules.{asks}
-use Rattle.flow.proofs.Forms.{kinds, but, recv-at, no-recv}
+use Rattle.forms.proofs.Forms.{kinds, but, recv-at, no-recv}
 use Rattle.flow.proofs.rules.recv_passes.Statement.{statement}
 use Rattle.flow.proofs.rules.recv_passes.Tie as tie
 

@@ -2,7 +2,7 @@
 use borrow.Author.Needs.{needs}
 use Rattle.program.specs.Maybe.{when}
 use Rattle.flow.specs.Rules.{asks}
-use Rattle.flow.proofs.Forms.{kinds, but, pair-at, no-pair}
+use Rattle.forms.proofs.Forms.{kinds, but, pair-at, no-pair}
 use Rattle.flow.proofs.rules.second_passes.Statement.{statement}
 use Rattle.flow.proofs.rules.second_passes.Tie as tie
 

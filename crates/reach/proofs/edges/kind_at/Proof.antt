@@ -5,8 +5,8 @@ use Rattle.reach.specs.Edges.{kindAt, kindOfRow}
 use Rattle.reach.proofs.edges.kind_at.Statement.{statement}
 use Rattle.reach.proofs.edges.kind_at.Tie as tie
 
-program-row-requires : tie.Need-program-row-requires
-program-row-requires c κs = search needs
+row-in-requires : tie.Need-row-in-requires
+row-in-requires c κs = search needs
 
 enum-told : tie.Need-enum-told
 enum-told c = search needs
@@ -19,13 +19,13 @@ kind-of-requires c κs = search needs
 
 returns : tie.Need-returns
 unfolding kindAt kindOfRow
-returns c = rw (sym (c .before .before .program-row .ensures) ∙ c .enum-told .given .1)
+returns c = rw (sym (c .before .before .row-in .ensures) ∙ c .enum-told .given .1)
 
 returns-2 : tie.Need-returns-2
 unfolding kindAt kindOfRow
-returns-2 c = rw (sym (c .before .before .before .before .program-row .ensures) ∙ c .before .before .b .given .1) (c .kind-of .ensures)
+returns-2 c = rw (sym (c .before .before .before .before .row-in .ensures) ∙ c .before .before .b .given .1) (c .kind-of .ensures)
 
 pub kind-at-spec : {M : Type 1} → statement M
 kind-at-spec =
     tie.close
-    (tie.spec program-row-requires enum-told enum-known-b kind-of-requires returns returns-2)
+    (tie.spec row-in-requires enum-told enum-known-b kind-of-requires returns returns-2)

@@ -18,8 +18,8 @@ abbrev μ-loop : tie.MeasureT-loop
 loop-holds : tie.Need-loop-holds Inv-loop μ-loop
 loop-holds c = refl
 
-program-row-requires : tie.Need-program-row-requires Inv-loop μ-loop
-program-row-requires c κs = search needs
+row-in-requires : tie.Need-row-in-requires Inv-loop μ-loop
+row-in-requires c κs = search needs
 
 enum-known-b : tie.Need-enum-known-b Inv-loop μ-loop
 enum-known-b c = search needs
@@ -28,7 +28,7 @@ enum-told : tie.Need-enum-told Inv-loop μ-loop
 enum-told c = search needs
 
 returns : tie.Need-returns Inv-loop μ-loop
-returns c = sym (result-found _ _ _ (sym (c .before .before .program-row .ensures) ∙ c .enum-told .given .1)) ∙ c .before .before .before .before .loop .inv ∙ result-steps _ _ _
+returns c = sym (result-found _ _ _ (sym (c .before .before .row-in .ensures) ∙ c .enum-told .given .1)) ∙ c .before .before .before .before .loop .inv ∙ result-steps _ _ _
 
 sub-left : tie.Need-sub-left Inv-loop μ-loop
 sub-left c = search needs
@@ -37,7 +37,7 @@ loop-less : tie.Need-loop-less Inv-loop μ-loop
 loop-less c = search needs
 
 loop-again : tie.Need-loop-again Inv-loop μ-loop
-loop-again c = sym (result-next _ _ _ (c .before .before .before .before .loop-test .taken) (sym (c .before .before .before .program-row .ensures) ∙ c .before .b .given .1)) ∙ c .before .before .before .before .before .loop .inv
+loop-again c = sym (result-next _ _ _ (c .before .before .before .before .loop-test .taken) (sym (c .before .before .before .row-in .ensures) ∙ c .before .b .given .1)) ∙ c .before .before .before .before .before .loop .inv
 
 returns-2 : tie.Need-returns-2 Inv-loop μ-loop
 returns-2 c = sym (result-none _ _ _ (c .loop-test .left)) ∙ c .before .loop .inv ∙ result-steps _ _ _
@@ -49,7 +49,7 @@ result-row-spec =
     Inv-loop
     μ-loop
     loop-holds
-    program-row-requires
+    row-in-requires
     enum-known-b
     enum-told
     returns

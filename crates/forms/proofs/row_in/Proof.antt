@@ -2,9 +2,9 @@
 use mathlib.Core.Path.{sym, _∙_}
 use borrow.Author.Needs.{needs}
 use Rattle.store.proofs.Laws.{row-at-program}
-use Rattle.flow.proofs.Forms.{row-past}
-use Rattle.flow.proofs.rows.row_in.Statement.{statement}
-use Rattle.flow.proofs.rows.row_in.Tie as tie
+use Rattle.forms.proofs.Forms.{row-past}
+use Rattle.forms.proofs.row_in.Statement.{statement}
+use Rattle.forms.proofs.row_in.Tie as tie
 
 returns : tie.Need-returns
 returns c = sym (row-past _ _ _ (c .if1 .taken))

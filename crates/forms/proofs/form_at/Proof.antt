@@ -1,9 +1,9 @@
 -- `form_at` meets its contract: a result reads as unit, a bind as its form.
 use mathlib.Core.Path.{sym, _∙_}
 use borrow.Author.Needs.{needs}
-use Rattle.flow.specs.Rules.{formIn}
-use Rattle.flow.proofs.rows.form_at.Statement.{statement}
-use Rattle.flow.proofs.rows.form_at.Tie as tie
+use Rattle.forms.specs.Forms.{formIn}
+use Rattle.forms.proofs.form_at.Statement.{statement}
+use Rattle.forms.proofs.form_at.Tie as tie
 
 row-in-requires : tie.Need-row-in-requires
 row-in-requires c κs = search needs

@@ -1,8 +1,5 @@
--- Rows of a store's program, the forms that they hold, and the results that they come to.
-use Prim.Native.Nat.{ℕ, zero, suc, _-_, _≤_, _<_}
-use native.Mathlib.Omega.{arith}
-use native.Mathlib.Decide.{decLt}
-use native.Mathlib.Numerals.{sub-one}
+-- Rows of a store's program, and the forms that they hold.
+use Prim.Native.Nat.{ℕ, _≤_}
 use mathlib.Core.Bool.{Bool, true, false, not}
 use mathlib.Core.List.{List, [], _∷_}
 use mathlib.Core.Option.{Option, none, some}
@@ -11,7 +8,6 @@ use lib.ListN.{List·getD-eq-default}
 use mir.Val.{hasKey}
 use types.Run.{OneOf, miss}
 use lib.Dec.{T, eqb}
-use borrow.Author.Tests.{lt-ltb, le-ltb}
 use denote.Enum.Declared.{tagOf}
 use Rattle.program.specs.declared.Row.{Row}
 use Rattle.program.specs.declared.Bind.{Bind}
@@ -19,13 +15,12 @@ use Rattle.program.proofs.Form as form
 use Rattle.program.specs.declared.Form.{Form}
 use Rattle.program.specs.declared.Form.the-variants.{Chan, Send, Recv, Pair, Left, Right, Fun, Spawn, Sync, First, Second, Case, Apply}
 use Rattle.program.specs.Test.{pick, _⇒_}
-use Rattle.program.specs.Maybe.{_>>=_, when}
-use Rattle.program.specs.Program.{Program, byKind, rowAt, bindOf, bindAt, formAt, nameOf, resultFrom, resultRow, resultName, sendOf, recvOf, pairOf, leftOf, rightOf, funOf, chanOf, chanAt, sendAt, recvAt, pairAt, leftAt, rightAt, funAt}
+use Rattle.program.specs.Maybe.{_>>=_, when, has}
+use Rattle.program.specs.Program.{Program, byKind, rowAt, bindOf, bindAt, formAt, sendOf, recvOf, pairOf, leftOf, rightOf, funOf, spawnOf, syncOf, chanOf, chanAt, chanRow, sendAt, recvAt, pairAt, leftAt, rightAt, funAt, syncAt, forkAt}
 use Rattle.format.specs.Text.{Bytes}
 use Rattle.store.specs.Rows.{storeProgram}
 use Rattle.store.proofs.Laws.{program-length}
-use Rattle.flow.specs.Rules.{formIn, Names}
-use Rattle.flow.proofs.Members.{Filled}
+use Rattle.forms.specs.Forms.{formIn}
 
 -- past the last row
 pub row-past : (n : ℕ) (s : Bytes) (r : ℕ) → n ≤ r → rowAt (storeProgram n s) r ≡ Row.Result 0
@@ -72,6 +67,10 @@ chan-of : (n : ℕ) (t : Bool) (f : Form) → when (chanOf n f) (λ n. t) ≡ is
 unfolding when
 chan-of n t = every-form _ refl refl (λ c m. refl) (λ c. refl) (λ a b. refl) (λ a. refl) (λ a. refl) (λ f x t. refl) (λ t. refl) (λ e. refl) (λ a. refl) (λ a. refl) (λ s l t r w. refl) (λ f a. refl)
 
+chan-has : (n : ℕ) (f : Form) → has (chanOf n f) (λ n. true) ≡ isChan f
+unfolding has
+chan-has n = every-form _ refl refl (λ c m. refl) (λ c. refl) (λ a b. refl) (λ a. refl) (λ a. refl) (λ f x t. refl) (λ t. refl) (λ e. refl) (λ a. refl) (λ a. refl) (λ s l t r w. refl) (λ f a. refl)
+
 -- ---- what a row's form holds
 
 at-form : {A : Type 0} (p : Program) (r : ℕ) (g : Form → Option A) → g Form.Unit ≡ none → formAt p r >>= g ≡ g (formIn (rowAt p r))
@@ -107,6 +106,10 @@ module _ (p : Program) (r : ℕ) {f : Form} (e : f ≡ formIn (rowAt p r)) where
   unfolding funAt
   fun-at = at-form p r funOf refl ∙ ap funOf (sym e)
 
+  pub sync-at : syncAt p r ≡ syncOf f
+  unfolding syncAt
+  sync-at = at-form p r syncOf refl ∙ ap syncOf (sym e)
+
   pub chan-at : (t : Bool) → when (chanAt p r) (λ n. t) ≡ isChan f ⇒ t
   unfolding chanAt bindAt bindOf formIn _>>=_ when
   chan-at t = go (rowAt p r) ∙ ap (λ f. isChan f ⇒ t) (sym e)
@@ -115,48 +118,29 @@ module _ (p : Program) (r : ℕ) {f : Form} (e : f ≡ formIn (rowAt p r)) where
       go (Row.Result n) = refl
       go (Row.Bind b) = chan-of (b .name) t (b .form)
 
--- ---- the result of a row
+  pub chan-row : chanRow p r ≡ isChan f
+  unfolding chanRow chanAt bindAt bindOf formIn _>>=_ has
+  chan-row = go (rowAt p r) ∙ ap isChan (sym e)
+    where
+      go : (w : Row) → has (bindOf w >>= λ b. chanOf (b .name) (b .form)) (λ n. true) ≡ isChan (formIn w)
+      go (Row.Result n) = refl
+      go (Row.Bind b) = chan-has (b .name) (b .form)
 
-module _ (p : Program) where
-  pub result-end : (k : ℕ) {n : ℕ} (r : ℕ) → rowAt p r ≡ Row.Result n → resultFrom k p r ≡ r
-  unfolding resultFrom
-  result-end zero r e = refl
-  result-end (suc k) r e = rw (e, resultFrom)
+-- past the last row there is no chan row
+pub chan-past : (n : ℕ) (s : Bytes) (r : ℕ) → n ≤ r → chanRow (storeProgram n s) r ≡ false
+unfolding formIn
+chan-past n s r l = chan-row (storeProgram n s) r {f = Form.Unit} (rw (row-past n s r l))
 
-  pub result-step : (k : ℕ) {b : Bind} (r : ℕ) → 0 < k → rowAt p r ≡ Row.Bind b → resultFrom k p r ≡ resultFrom (k - 1) p (b .rest)
-  unfolding resultFrom
-  result-step zero r l e = absurd (omega arith)
-  result-step (suc k) r l e = rw (e, sub-one, resultFrom)
+-- ---- the spawned row and the rest
 
-module _ (n : ℕ) (s : Bytes) where
-  result-found : (r k : ℕ) → k ≡ resultFrom n (storeProgram n s) r → nameOf (rowAt (storeProgram n s) k) ≡ resultName (storeProgram n s) r
-  unfolding resultName resultRow
-  result-found r k e = rw (program-length n s, e)
+module _ (p : Program) (r : ℕ) where
+  pub fork-end : {n : ℕ} → rowAt p r ≡ Row.Result n → forkAt p r ≡ none
+  unfolding forkAt bindAt bindOf _>>=_
+  fork-end e = rw (e, bindOf, _>>=_)
 
-  -- a walk from row r has come to a result
-  pub result-reached : (left r at m : ℕ)
-      → resultFrom left (storeProgram n s) at ≡ resultFrom n (storeProgram n s) r → rowAt (storeProgram n s) at ≡ Row.Result m → m ≡ resultName (storeProgram n s) r
-  unfolding nameOf
-  result-reached left r at m inv e = rw e at (result-found r at (sym (result-end (storeProgram n s) left at e) ∙ inv))
-
-  -- it has gone as many steps as there are rows
-  pub result-out : (left r at : ℕ)
-      → left ≤ 0 → resultFrom left (storeProgram n s) at ≡ resultFrom n (storeProgram n s) r → nameOf (rowAt (storeProgram n s) at) ≡ resultName (storeProgram n s) r
-  unfolding resultFrom
-  result-out zero r at l inv = result-found r at inv
-  result-out (suc left) r at l inv = absurd (omega arith)
-
-  pub result-past : (r : ℕ) → n ≤ r → resultName (storeProgram n s) r ≡ 0
-  result-past r h = sym (result-reached n r r 0 refl (row-past n s r h))
-
-  -- the names of the first n rows, and zeros
-  pub names-filled : {names : Bytes} → Filled n (resultName (storeProgram n s)) names → Names (storeProgram n s) names
-  unfolding Names
-  names-filled h t =
-      elim (decLt t n) [
-        | yes l ↦ h .bytes t ∙ rw (lt-ltb t n l)
-        | no g ↦ h .bytes t ∙ rw (le-ltb t n (omega arith), result-past t (omega arith))
-      ]
+  pub fork-bind : {b : Bind} → rowAt p r ≡ Row.Bind b → forkAt p r ≡ spawnOf (b .form) >>= λ t. some (t, b .rest)
+  unfolding forkAt bindAt bindOf _>>=_
+  fork-bind e = rw (e, bindOf, _>>=_)
 
 -- ---- a form that is none of some kinds
 
@@ -187,6 +171,12 @@ module _ (ks : List ℕ) (f : Form) where
 
   pub no-fun : T (not (hasKey ks 7)) → OneOf ks (tagOf form.the-type f) → funOf f ≡ none
   no-fun h = every-form (λ f. OneOf ks (tagOf form.the-type f) → funOf f ≡ none) (λ o. refl) (λ o. refl) (λ c m o. refl) (λ c o. refl) (λ a b o. refl) (λ a o. refl) (λ a o. refl) (λ f x t o. absurd (miss ks 7 h o)) (λ t o. refl) (λ e o. refl) (λ a o. refl) (λ a o. refl) (λ s l t r w o. refl) (λ f a o. refl) f
+
+  pub no-spawn : T (not (hasKey ks 8)) → OneOf ks (tagOf form.the-type f) → spawnOf f ≡ none
+  no-spawn h = every-form (λ f. OneOf ks (tagOf form.the-type f) → spawnOf f ≡ none) (λ o. refl) (λ o. refl) (λ c m o. refl) (λ c o. refl) (λ a b o. refl) (λ a o. refl) (λ a o. refl) (λ f x t o. refl) (λ t o. absurd (miss ks 8 h o)) (λ e o. refl) (λ a o. refl) (λ a o. refl) (λ s l t r w o. refl) (λ f a o. refl) f
+
+  pub no-sync : T (not (hasKey ks 9)) → OneOf ks (tagOf form.the-type f) → syncOf f ≡ none
+  no-sync h = every-form (λ f. OneOf ks (tagOf form.the-type f) → syncOf f ≡ none) (λ o. refl) (λ o. refl) (λ c m o. refl) (λ c o. refl) (λ a b o. refl) (λ a o. refl) (λ a o. refl) (λ f x t o. refl) (λ t o. refl) (λ e o. absurd (miss ks 9 h o)) (λ a o. refl) (λ a o. refl) (λ s l t r w o. refl) (λ f a o. refl) f
 
   pub no-chan : T (not (hasKey ks 1)) → OneOf ks (tagOf form.the-type f) → isChan f ≡ false
   no-chan h = every-form (λ f. OneOf ks (tagOf form.the-type f) → isChan f ≡ false) (λ o. refl) (λ o. absurd (miss ks 1 h o)) (λ c m o. refl) (λ c o. refl) (λ a b o. refl) (λ a o. refl) (λ a o. refl) (λ f x t o. refl) (λ t o. refl) (λ e o. refl) (λ a o. refl) (λ a o. refl) (λ s l t r w o. refl) (λ f a o. refl) f

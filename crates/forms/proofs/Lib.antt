@@ -1,0 +1,2 @@
+-- Laws about the rows of a store's program and their forms.
+pub mod Forms

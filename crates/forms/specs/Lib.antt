@@ -1,0 +1,2 @@
+-- The form of a row.
+pub mod Forms

@@ -1,0 +1,2 @@
+-- What judging a store answers and leaves.
+pub mod Judged

@@ -1,0 +1,78 @@
+-- `rivals` meets its contract. The loop's invariant: none of the first q rows is such a row. The measure is the number of rows left.
+use Prim.Native.Nat.{_≤_, _-_}
+use native.Mathlib.Omega.{arith}
+use mathlib.Core.Bool.{false, _&&_}
+use mathlib.Core.Path.{_≡_, refl, sym, _∙_}
+use Rattle.program.specs.Test.{any}
+use Rattle.store.specs.Rows.{storeProgram}
+use Rattle.verdicts.specs.Marks.{on}
+use Rattle.verdicts.specs.Walks.{forksOn, rivalsOn}
+use Rattle.verdicts.proofs.Walking.{none-more, one-found, not-on, is-on}
+use borrow.Author.Needs.{needs}
+use Rattle.verdicts.proofs.walks.rivals.Statement.{statement}
+use Rattle.verdicts.proofs.walks.rivals.Tie as tie
+
+abbrev Inv-loop : tie.InvT-loop
+Inv-loop store rows reached places ahead q₀ q =
+    (q ≤ rows) × (any q (λ k. on reached k && forksOn rows (storeProgram rows store) places ahead k) ≡ false)
+
+abbrev μ-loop : tie.MeasureT-loop
+μ-loop store rows reached places ahead q₀ q = rows - q
+
+loop-holds : tie.Need-loop-holds Inv-loop μ-loop
+unfolding any
+loop-holds c = (omega arith, refl)
+
+cast-byte-at : tie.Need-cast-byte-at Inv-loop μ-loop
+cast-byte-at c = search needs
+
+byte-at-requires : tie.Need-byte-at-requires Inv-loop μ-loop
+byte-at-requires c κs = search needs
+
+add-q : tie.Need-add-q Inv-loop μ-loop
+add-q c = search needs
+
+loop-less : tie.Need-loop-less Inv-loop μ-loop
+loop-less c = search needs
+
+loop-again : tie.Need-loop-again Inv-loop μ-loop
+loop-again c = (omega arith, none-more _ _ (c .before .before .before .loop .inv .1) (not-on _ _ (c .before .byte-at .ensures) _ (c .if1 .taken)))
+
+forks-requires : tie.Need-forks-requires Inv-loop μ-loop
+forks-requires c κs = search needs
+
+returns : tie.Need-returns Inv-loop μ-loop
+unfolding rivalsOn
+returns c = one-found _ _ _ (c .before .before .before .before .loop-test .taken) (is-on _ _ (c .before .before .before .byte-at .ensures) _ (c .before .before .if1 .left) ∙ sym (c .before .forks .ensures) ∙ c .if2 .taken)
+
+add-q-2 : tie.Need-add-q-2 Inv-loop μ-loop
+add-q-2 c = search needs
+
+loop-less-2 : tie.Need-loop-less-2 Inv-loop μ-loop
+loop-less-2 c = search needs
+
+loop-again-2 : tie.Need-loop-again-2 Inv-loop μ-loop
+loop-again-2 c = (omega arith, none-more _ _ (c .before .before .before .before .before .loop .inv .1) (is-on _ _ (c .before .before .before .byte-at .ensures) _ (c .before .before .if1 .left) ∙ sym (c .before .forks .ensures) ∙ c .if2 .left))
+
+returns-2 : tie.Need-returns-2 Inv-loop μ-loop
+unfolding rivalsOn
+returns-2 c = let q : c .before .loop .q ≡ c .before .before .before .before .before .before .args .rows = omega arith in sym (rw q at (c .before .loop .inv .1))
+
+pub rivals-spec : {M : Type 1} → statement M
+rivals-spec =
+    tie.close
+    (tie.spec
+    Inv-loop
+    μ-loop
+    loop-holds
+    cast-byte-at
+    byte-at-requires
+    add-q
+    loop-less
+    loop-again
+    forks-requires
+    returns
+    add-q-2
+    loop-less-2
+    loop-again-2
+    returns-2)
