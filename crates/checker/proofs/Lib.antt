@@ -1,3 +1,4 @@
--- Laws that the proofs of the calls share.
+-- Laws that the proofs of the calls share, and `Promises`: the demands, of the functions.
 pub mod Texts
 pub mod Judges
+pub mod Promises

@@ -162,10 +162,10 @@ module _ (n : ℕ) (s : Bytes) (rows : n ≡ countRows rowLimit s) where
   chan-is : (c : ℕ) {b : Bool} → chanRow (storeProgram n s) c ≡ b → chanRow (decode s .rows) c ≡ b
   chan-is c q = ap (λ (p : Program). chanRow p c) rows-are ∙ q
 
-  pub not-a-channel : (c : ℕ) → chanRow (storeProgram n s) c ≡ false
+  pub no-channel : (c : ℕ) → chanRow (storeProgram n s) c ≡ false
       → record { status = VerdictStatus.Refused (refusal NotAChannel 0); words = false ∷ false ∷ false ∷ false ∷ [] } ≡ verdictGiven (verdictOf c (decode s))
   unfolding verdictOf verdictGiven
-  not-a-channel c q = rw (chan-is c q, verdictGiven) refl
+  no-channel c q = rw (chan-is c q, verdictGiven) refl
 
   module _ (c : ℕ) (q : chanRow (storeProgram n s) c ≡ true) {m : ℕ} (e : m ≡ rowOr (least n (λ r. not (keeps r)))) where
     pub verdict-refused : m < n → record { status = VerdictStatus.Refused (refusal FlowRuleFails (rowLine m)); words = false ∷ false ∷ false ∷ false ∷ [] } ≡ verdictGiven (verdictOf c (decode s))

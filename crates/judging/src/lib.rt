@@ -45,6 +45,16 @@ fn no_verdict(refusal: Refusal) -> VerdictAnswer
     }
 }
 
+// 24: the number is no chan row.
+fn not_a_channel() -> VerdictAnswer
+    ensures { λ a. ⌜ a ≡ record { status = VerdictStatus.Refused (refusal Reason.NotAChannel 0); words = false ∷ false ∷ false ∷ false ∷ [] } ⌝ }
+{
+    no_verdict(Refusal {
+        reason: Reason::NotAChannel,
+        line: 0,
+    })
+}
+
 // Whether the claim of a word's code holds of channel row c.
 fn claim_holds(store: &[u8], rows: u8, grid: &[u8], c: u8, code: u8) -> bool
     requires { ⌜ (storeSize ≤ length (now store)) × (rows ≤ rowLimit) × (gridSize ≤ length (now grid)) ⌝ }
@@ -71,13 +81,13 @@ fn judge_claims(store: &[u8], rows: u8, grid: &[u8], line: usize) -> JudgeAnswer
     let mut c = 0;
     while c < Store::ROWS {
         let code = text::byte_at(store, Store::CLAIMS + c);
+        let row = c as u8;
+        c += 1;
         if code == 0 {
-            c += 1;
             continue;
         }
-        if claim_holds(store, rows, grid, c as u8, code) {
+        if claim_holds(store, rows, grid, row, code) {
             held += 1;
-            c += 1;
             continue;
         }
         return JudgeAnswer::Refused(Refusal {
@@ -134,16 +144,13 @@ pub fn verdict_rows(store: &[u8], rows: u8, channel: usize) -> VerdictAnswer
     ensures { λ a. ⌜ a ≡ verdictGiven (verdictOf channel (decode (now (store .entry)))) ⌝ }
 {
     if rows as usize <= channel {
-        return no_verdict(Refusal {
-            reason: Reason::NotAChannel,
-            line: 0,
-        });
+        return not_a_channel();
     }
     let c = channel as u8;
     if forms::is_chan(store, rows, c) {
-        let row = flow::failing_row(store, rows);
-        if row < rows {
-            return no_verdict(flow_refusal(row));
+        let failing = flow::failing_row(store, rows);
+        if failing < rows {
+            return no_verdict(flow_refusal(failing));
         }
         let mut grid = [0u8; GRID];
         reach::fill_reach(store, rows, &mut grid);
@@ -152,8 +159,5 @@ pub fn verdict_rows(store: &[u8], rows: u8, channel: usize) -> VerdictAnswer
             words: verdicts::words(store, rows, &grid, c),
         };
     }
-    no_verdict(Refusal {
-        reason: Reason::NotAChannel,
-        line: 0,
-    })
+    not_a_channel()
 }

@@ -30,6 +30,9 @@ add-byte-at c = search needs
 byte-at-requires : tie.Need-byte-at-requires Inv-loop μ-loop
 byte-at-requires c κs = search needs
 
+cast-row : tie.Need-cast-row Inv-loop μ-loop
+cast-row c = search needs
+
 add-c : tie.Need-add-c Inv-loop μ-loop
 add-c c = search needs
 
@@ -39,17 +42,11 @@ loop-less c = search needs
 loop-again : tie.Need-loop-again Inv-loop μ-loop
 loop-again c = (omega arith, omega arith, sym (judged-none _ _ _ _ _ _ (c .before .before .loop-test .taken) (c .before .byte-at .ensures) (c .if1 .taken)) ∙ c .before .before .before .loop .inv .2)
 
-cast-claim-holds : tie.Need-cast-claim-holds Inv-loop μ-loop
-cast-claim-holds c = search needs
-
 claim-holds-requires : tie.Need-claim-holds-requires Inv-loop μ-loop
 claim-holds-requires c κs = search needs
 
 add-held : tie.Need-add-held Inv-loop μ-loop
 add-held c = search needs
-
-add-c-2 : tie.Need-add-c-2 Inv-loop μ-loop
-add-c-2 c = search needs
 
 loop-less-2 : tie.Need-loop-less-2 Inv-loop μ-loop
 loop-less-2 c = search needs
@@ -58,8 +55,8 @@ loop-again-2 : tie.Need-loop-again-2 Inv-loop μ-loop
 unfolding claimIn
 loop-again-2 c = (omega arith, omega arith, sym (judged-holds _ _ _ _ _ _ (c .before .before .before .before .loop-test .taken) (c .before .before .before .byte-at .ensures) (c .before .before .if1 .left) (sym (c .before .claim-holds .ensures) ∙ c .if2 .taken)) ∙ c .before .before .before .before .before .loop .inv .2)
 
-add-t9 : tie.Need-add-t9 Inv-loop μ-loop
-add-t9 c = search needs
+add-t10 : tie.Need-add-t10 Inv-loop μ-loop
+add-t10 c = search needs
 
 returns : tie.Need-returns Inv-loop μ-loop
 unfolding claimIn
@@ -77,15 +74,14 @@ judge-claims-spec =
     loop-holds
     add-byte-at
     byte-at-requires
+    cast-row
     add-c
     loop-less
     loop-again
-    cast-claim-holds
     claim-holds-requires
     add-held
-    add-c-2
     loop-less-2
     loop-again-2
-    add-t9
+    add-t10
     returns
     returns-2)

@@ -2,16 +2,16 @@
 use native.Mathlib.Omega.{arith}
 use mathlib.Core.Path.{sym, _∙_}
 use Rattle.forms.proofs.Forms.{chan-past}
-use Rattle.judging.proofs.Documents.{few-rows, not-a-channel, verdict-refused, verdict-goes}
+use Rattle.judging.proofs.Documents.{few-rows, no-channel, verdict-refused, verdict-goes}
 use borrow.Author.Needs.{needs}
 use Rattle.judging.proofs.verdict_rows.Statement.{statement}
 use Rattle.judging.proofs.verdict_rows.Tie as tie
 
-no-verdict-requires : tie.Need-no-verdict-requires
-no-verdict-requires c κs = search needs
+not-a-channel-requires : tie.Need-not-a-channel-requires
+not-a-channel-requires c κs = search needs
 
 returns : tie.Need-returns
-returns c = rw (c .no-verdict .ensures) (not-a-channel _ _ (c .before .before .before .pre .1) _ (chan-past _ _ _ (c .before .if1 .taken)))
+returns c = rw (c .not-a-channel .ensures) (no-channel _ _ (c .before .before .before .pre .1) _ (chan-past _ _ _ (c .before .if1 .taken)))
 
 cast-c : tie.Need-cast-c
 cast-c c = search needs
@@ -25,11 +25,11 @@ failing-row-requires c κs = (omega (arith, c .before .before .before .before .p
 flow-refusal-requires : tie.Need-flow-refusal-requires
 flow-refusal-requires c κs = search needs
 
-no-verdict-requires-2 : tie.Need-no-verdict-requires-2
-no-verdict-requires-2 c κs = search needs
+no-verdict-requires : tie.Need-no-verdict-requires
+no-verdict-requires c κs = search needs
 
 returns-2 : tie.Need-returns-2
-returns-2 c = rw (c .no-verdict2 .ensures, c .before .flow-refusal .ensures) (verdict-refused _ _ (c .before .before .before .before .before .before .before .before .pre .1) _ (sym (c .before .before .before .before .before .is-chan .ensures) ∙ c .before .before .before .before .if2 .taken) (c .before .before .before .failing-row .ensures) (c .before .before .if3 .taken))
+returns-2 c = rw (c .no-verdict .ensures, c .before .flow-refusal .ensures) (verdict-refused _ _ (c .before .before .before .before .before .before .before .before .pre .1) _ (sym (c .before .before .before .before .before .is-chan .ensures) ∙ c .before .before .before .before .if2 .taken) (c .before .before .before .failing-row .ensures) (c .before .before .if3 .taken))
 
 slice-aggregate-fill-reach : tie.Need-slice-aggregate-fill-reach
 slice-aggregate-fill-reach c = search needs
@@ -46,28 +46,28 @@ words-requires c κs = ((omega (arith, c .before .before .before .before .before
 returns-3 : tie.Need-returns-3
 returns-3 c = verdict-goes _ _ (c .before .before .before .before .before .before .before .before .before .before .before .pre .1) _ (sym (c .before .before .before .before .before .before .before .before .is-chan .ensures) ∙ c .before .before .before .before .before .before .before .if2 .taken) (c .before .before .before .before .before .before .failing-row .ensures) (c .before .before .before .before .before .if3 .left) (c .words .ensures)
 
-no-verdict-requires-3 : tie.Need-no-verdict-requires-3
-no-verdict-requires-3 c κs = search needs
+not-a-channel-requires-2 : tie.Need-not-a-channel-requires-2
+not-a-channel-requires-2 c κs = search needs
 
 returns-4 : tie.Need-returns-4
-returns-4 c = rw (c .no-verdict3 .ensures) (not-a-channel _ _ (c .before .before .before .before .before .pre .1) _ (sym (c .before .before .is-chan .ensures) ∙ c .before .if2 .left))
+returns-4 c = rw (c .not-a-channel2 .ensures) (no-channel _ _ (c .before .before .before .before .before .pre .1) _ (sym (c .before .before .is-chan .ensures) ∙ c .before .if2 .left))
 
 pub verdict-rows-spec : {M : Type 1} → statement M
 verdict-rows-spec =
     tie.close
     (tie.spec
-    no-verdict-requires
+    not-a-channel-requires
     returns
     cast-c
     is-chan-requires
     failing-row-requires
     flow-refusal-requires
-    no-verdict-requires-2
+    no-verdict-requires
     returns-2
     slice-aggregate-fill-reach
     fill-reach-requires
     slice-aggregate-words
     words-requires
     returns-3
-    no-verdict-requires-3
+    not-a-channel-requires-2
     returns-4)
