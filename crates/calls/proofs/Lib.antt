@@ -3,5 +3,6 @@ pub mod Codec
 pub mod Canonical
 pub mod Judging
 pub mod Calls
+pub mod Bounds
 pub mod Demands
 pub mod Examples

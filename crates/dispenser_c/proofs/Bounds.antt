@@ -1,0 +1,87 @@
+-- Every answer of the calls is packed without loss: lines and texts are short, counts are bytes, words are bits.
+use Prim.Native.Nat.{ℕ, _+_, _*_, _^_, _≤_, _<_}
+use native.Mathlib.Omega.{arith}
+use mathlib.Core.List.{List, [], _∷_}
+use mathlib.Core.Path.{_≡_, refl}
+use lib.ListN.{length, take, length-take}
+use lib.Dec.{ltb}
+use Rattle.program.proofs.Each.{Each, nil, _&_}
+use Rattle.format.specs.Limits.{rowLimit}
+use Rattle.format.specs.Text.{Bytes}
+use Rattle.format.specs.Refusals.{Result, refused, accepted}
+use Rattle.format.specs.Document.{Document}
+use Rattle.format.specs.Print.{documentText}
+use Rattle.calls.specs.Answers.{Answer, turnedBack, answered, refusalAnswer, loadAnswer, judgeAnswer, verdictAnswer, writeAnswer}
+use Rattle.calls.specs.Layout.{storeSize, decode}
+use Rattle.calls.specs.Canonical.{countRows}
+use Rattle.calls.specs.Calls.{opened, andThen, load, judge, verdict, written, write}
+use Rattle.calls.proofs.Canonical.{rows-decoded}
+use Rattle.calls.proofs.Canonical.Rows.{count-rows-le}
+use Rattle.calls.proofs.Codec.Sparse.{either}
+use Rattle.calls.proofs.Bounds.{Within, line-within, values-within, OpensTo, not-opened, decoded, opens-to, load-within, judge-within, verdict-within, four-words}
+use Rattle.store.specs.Rows.{storeRow, storeProgram}
+use Rattle.writing.specs.Texts.{storedDocument}
+use Rattle.writing.proofs.Bounds.{stored-bound}
+use Rattle.packing.specs.Packing.{packed, countBits, wordBits, numberBits, Short, Lossless}
+use Rattle.packing.proofs.Unpacking.{unpacked, load-back, judge-back, verdict-back, write-back}
+
+-- ---- from bounds to bits
+
+module _ (line value bits : ℕ) (few : line < 2 ^ numberBits) (low : value < 2 ^ bits) where
+  short : (vs : List ℕ) → Each (λ v. v ≤ value) vs → Short bits vs
+  short [] nil = tt
+  short (v ∷ vs) (h & hs) = (omega arith, short vs hs)
+
+  lossless : (a : Answer) → Within line value a → Lossless bits a
+  lossless (turnedBack n l) (line-within h) = omega arith
+  lossless (answered vs) (values-within h) = short vs h
+
+-- ---- write
+
+-- a crude bound of a store's text
+abbrev textLimit : ℕ
+textLimit = 2100 * rowLimit + 40 * storeSize + 14
+
+text-bound : (s : Bytes) → length s ≤ storeSize → length (documentText (decode s)) ≤ textLimit
+unfolding storedDocument decode storeProgram storeRow
+text-bound s h =
+    let n = countRows rowLimit s in
+    let same : storedDocument n s ≡ decode s = rw (← rows-decoded s) refl in
+    rw (← same) (omega (arith, stored-bound n s, count-rows-le rowLimit s))
+
+write-within : (store out : Bytes) → Within 0 textLimit (writeAnswer (write store out .answer))
+unfolding write andThen written writeAnswer refusalAnswer
+write-within store out = go (opened store) (opens-to store)
+  where
+    go : (x : Result Document) → OpensTo store x → Within 0 textLimit (writeAnswer (written out (andThen x (λ d. accepted (documentText d))) .answer))
+    go (refused r) not-opened = line-within {l = 0} (omega arith)
+    go (accepted d) (decoded e) =
+        let low = text-bound (take storeSize store) (omega (arith, length-take storeSize store)) in
+        either (ltb (length out) (length (documentText d))) (λ t. rw (t, written) (line-within {l = 0} (omega arith)))
+        (λ t. rw (t, written) (values-within (rw (← e) at low & nil)))
+
+-- ---- the four calls: each answer is packed without loss, so that what a caller reads in the number is the answer
+
+pub load-lossless : (file store : Bytes) → Lossless countBits (loadAnswer (load file store .answer))
+load-lossless file store = lossless _ _ countBits (omega arith) (omega arith) _ (load-within file store)
+
+pub load-read : (file store : Bytes) → let a = loadAnswer (load file store .answer) in unpacked countBits 4 (packed countBits a) ≡ a
+load-read file store = load-back (load file store .answer) (load-lossless file store)
+
+pub judge-lossless : (store : Bytes) → Lossless numberBits (judgeAnswer (judge store))
+judge-lossless store = lossless _ _ numberBits (omega arith) (omega arith) _ (judge-within store)
+
+pub judge-read : (store : Bytes) → let a = judgeAnswer (judge store) in unpacked numberBits 1 (packed numberBits a) ≡ a
+judge-read store = judge-back (judge store) (judge-lossless store)
+
+pub verdict-lossless : (store : Bytes) (c : ℕ) → Lossless wordBits (verdictAnswer (verdict store c))
+verdict-lossless store c = lossless _ _ wordBits (omega arith) (omega arith) _ (verdict-within store c)
+
+pub verdict-read : (store : Bytes) (c : ℕ) → let a = verdictAnswer (verdict store c) in unpacked wordBits 4 (packed wordBits a) ≡ a
+verdict-read store c = verdict-back (verdict store c) (four-words store c) (verdict-lossless store c)
+
+pub write-lossless : (store out : Bytes) → Lossless numberBits (writeAnswer (write store out .answer))
+write-lossless store out = lossless 0 textLimit numberBits (omega arith) (omega arith) _ (write-within store out)
+
+pub write-read : (store out : Bytes) → let a = writeAnswer (write store out .answer) in unpacked numberBits 1 (packed numberBits a) ≡ a
+write-read store out = write-back (write store out .answer) (write-lossless store out)

@@ -1,0 +1,53 @@
+// The checker's calls as C functions on numbers and byte slices; `include/dispenser.h` declares them. A slice is a pointer and a length. An answer is one number, packed as `Packing` of crate packing says.
+use store::Store;
+ghost use mathlib.Core.Path.{_≡_};
+ghost use Rattle.calls.specs.Layout.{storeSize};
+ghost use Rattle.calls.specs.Calls.{load, judge, verdict, write};
+ghost use Rattle.calls.specs.Answers.{loadAnswer, judgeAnswer, verdictAnswer, writeAnswer};
+ghost use Rattle.packing.specs.Packing.{packed, countBits, wordBits, numberBits};
+
+// The bytes that a store must have.
+#[no_mangle]
+pub extern "C" fn dispenser_store_size() -> u64
+    ensures { λ n. ⌜ n ≡ storeSize ⌝ }
+{
+    Store::SIZE as u64
+}
+
+// Loads a file into the lent store: rows, flows, comms and claims.
+#[no_mangle]
+pub extern "C" fn dispenser_load(file: &[u8], store: &mut [u8]) -> u64
+    ensures { λ n. ⌜ n ≡ packed countBits (loadAnswer (load (now (file .entry)) (now (store .entry)) .answer)) ⌝ }
+    ensures { λ _. ⌜ now (store .exit) ≡ load (now (file .entry)) (now (store .entry)) .bytes ⌝ }
+{
+    let answer = checker::load(file, store);
+    packing::pack_load(answer)
+}
+
+// Judges the claims of a store: how many there are.
+#[no_mangle]
+pub extern "C" fn dispenser_judge(store: &[u8]) -> u64
+    ensures { λ n. ⌜ n ≡ packed numberBits (judgeAnswer (judge (now (store .entry)))) ⌝ }
+{
+    let answer = checker::judge(store);
+    packing::pack_judge(answer)
+}
+
+// The verdict of a channel row: its four words.
+#[no_mangle]
+pub extern "C" fn dispenser_verdict(store: &[u8], channel: usize) -> u64
+    ensures { λ n. ⌜ n ≡ packed wordBits (verdictAnswer (verdict (now (store .entry)) channel)) ⌝ }
+{
+    let answer = checker::verdict(store, channel);
+    packing::pack_verdict(answer)
+}
+
+// Writes the text of a store into the lent output: the bytes written.
+#[no_mangle]
+pub extern "C" fn dispenser_write(store: &[u8], out: &mut [u8]) -> u64
+    ensures { λ n. ⌜ n ≡ packed numberBits (writeAnswer (write (now (store .entry)) (now (out .entry)) .answer)) ⌝ }
+    ensures { λ _. ⌜ now (out .exit) ≡ write (now (store .entry)) (now (out .entry)) .bytes ⌝ }
+{
+    let answer = checker::write(store, out);
+    packing::pack_write(answer)
+}

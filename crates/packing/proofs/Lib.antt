@@ -1,0 +1,3 @@
+-- Laws that the proofs of the functions share, and that packing loses nothing.
+pub mod Words
+pub mod Unpacking
