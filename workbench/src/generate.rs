@@ -5,6 +5,7 @@
 
 mod damage;
 mod documents;
+mod limits;
 mod program;
 mod structure;
 mod tables;
@@ -14,6 +15,7 @@ pub use documents::{
     accepted_document, claim_anything, claim_falsely, claim_truly, contested, least_document,
     loadable_document, loose_document, wide_document,
 };
+pub use limits::{chain, file_of_length, full_document};
 pub use program::program;
 pub use structure::{break_structure, structural_file};
 pub use tables::{narrow, widen, Tables};
