@@ -6,7 +6,10 @@
 
 pub mod checker;
 pub mod differential;
+pub mod explain;
 pub mod generate;
 pub mod layout;
 pub mod reference;
 pub mod samples;
+pub mod text;
+pub mod tool;

@@ -2,7 +2,7 @@
 
 use super::{claim_anything, widen, Random, Tables};
 use crate::reference::document::{Bind, Document, Flow, Form, Row, Set, LAST_NUMBER};
-use crate::reference::print::print;
+use crate::reference::print::{print, set_text};
 
 /// So many rows, all chan but the last.
 pub fn chain(count: usize) -> Document {
@@ -21,8 +21,8 @@ pub fn chain(count: usize) -> Document {
 /// A document with 160 rows and 160 names, few sets and some claims.
 pub fn full_document(random: &mut Random) -> Document {
     let mut document = chain(LAST_NUMBER + 1);
-    // One row binds two names more: row 157 becomes a function whose body is
-    // row 158, so its rest is row 159. A name is left out for each.
+    // The last bind becomes a function, which binds two names more; its body is
+    // the row before the last.
     let first = random.below(3);
     for (row, content) in document.rows.iter_mut().enumerate() {
         if let Row::Bind(bind) = content {
@@ -51,27 +51,30 @@ pub fn full_document(random: &mut Random) -> Document {
 }
 
 /// A file of 160 rows that load takes but for its length, of exactly so many
-/// bytes; at least 5,000 and at most 33,000.
+/// bytes; at least 8,000 and at most 40,000.
 pub fn file_of_length(random: &mut Random, length: usize) -> Vec<u8> {
     let mut document = chain(LAST_NUMBER + 1);
-    let all: Set = Set {
+    let set = Set {
         unit: random.chance(1, 2),
         rows: (0..LAST_NUMBER).collect(),
     };
-    for name in 0..LAST_NUMBER {
-        let set = all.clone();
+    let mut bytes = print(&document).len();
+    let mut names = 0..LAST_NUMBER;
+    while let Some(name) = names.next().filter(|_| bytes <= length) {
+        bytes += format!("[flow {name} {}]\n", set_text(&set)).len();
+        let set = set.clone();
         document.flows.push(Flow { name, set });
-        if print(&document).len() > length {
-            break;
-        }
     }
-    // Members of three, two and one digits take four, three and two bytes.
-    for row in (0..LAST_NUMBER).rev() {
-        let excess = print(&document).len() - length;
-        let bytes = row.to_string().len() + 1;
-        let last = document.flows.len() - 1;
-        if bytes <= excess && excess - bytes != 1 {
-            document.flows[last].set.rows.remove(&row);
+    // Members of three, two and one digits take four, three and two bytes. Row 0
+    // stays, so that no set is empty.
+    for flow in document.flows.iter_mut().rev() {
+        for row in (1..LAST_NUMBER).rev() {
+            let excess = bytes - length;
+            let member = row.to_string().len() + 1;
+            if member <= excess && excess - member != 1 {
+                flow.set.rows.remove(&row);
+                bytes -= member;
+            }
         }
     }
     print(&document)

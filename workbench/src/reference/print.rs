@@ -44,7 +44,8 @@ fn form_text(form: &Form) -> String {
     format!("[{}{numbers}]", form.word())
 }
 
-fn set_text(set: &Set) -> String {
+/// The text of a set.
+pub fn set_text(set: &Set) -> String {
     let unit = set.unit.then(|| "u".to_string());
     let rows = set.rows.iter().map(usize::to_string);
     let parts: Vec<String> = unit.into_iter().chain(rows).collect();
