@@ -7,6 +7,7 @@ mod damage;
 mod documents;
 mod limits;
 mod program;
+mod scaled;
 mod structure;
 mod tables;
 
@@ -17,6 +18,7 @@ pub use documents::{
 };
 pub use limits::{chain, file_of_length, full_document};
 pub use program::program;
+pub use scaled::{dense, shared, workers};
 pub use structure::{break_structure, structural_file};
 pub use tables::{narrow, widen, Tables};
 

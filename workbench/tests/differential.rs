@@ -77,7 +77,7 @@ fn limits_of_rows_and_names() {
 
 #[test]
 fn limit_of_bytes() {
-    compare(FileKind::ByteLimit, 150, &[0, 1, 2], &[10]);
+    compare(FileKind::ByteLimit, 150, &[0, 1, 2], &[0, 21]);
 }
 
 #[test]

@@ -1,7 +1,9 @@
 //! Documents at the limits of rows, names and bytes.
 
+use std::collections::BTreeSet;
+
 use super::{claim_anything, widen, Random, Tables};
-use crate::reference::document::{Bind, Document, Flow, Form, Row, Set, LAST_NUMBER};
+use crate::reference::document::{Bind, Document, Form, Row, LAST_NUMBER};
 use crate::reference::print::{print, set_text};
 
 /// So many rows, all chan but the last.
@@ -50,25 +52,27 @@ pub fn full_document(random: &mut Random) -> Document {
     document
 }
 
-/// A file of 160 rows that load takes but for its length, of exactly so many
-/// bytes; at least 8,000 and at most 40,000.
+/// A file of 160 rows, of exactly so many bytes, at least 8,000 and at most
+/// 90,000. Its tables keep the flow rules; load takes it if it is short enough.
 pub fn file_of_length(random: &mut Random, length: usize) -> Vec<u8> {
     let mut document = chain(LAST_NUMBER + 1);
-    let set = Set {
-        unit: random.chance(1, 2),
-        rows: (0..LAST_NUMBER).collect(),
-    };
+    Tables::empty().close(&document.rows).put(&mut document);
     let mut bytes = print(&document).len();
-    let mut names = 0..LAST_NUMBER;
-    while let Some(name) = names.next().filter(|_| bytes <= length) {
-        bytes += format!("[flow {name} {}]\n", set_text(&set)).len();
-        let set = set.clone();
-        document.flows.push(Flow { name, set });
+    // Sets are filled, in any order, until the file is long enough.
+    random.shuffle(&mut document.flows);
+    let full: BTreeSet<usize> = (0..LAST_NUMBER).collect();
+    let mut filled = 0;
+    while bytes < length {
+        let set = &mut document.flows[filled].set;
+        bytes -= set_text(set).len();
+        set.rows.clone_from(&full);
+        bytes += set_text(set).len();
+        filled += 1;
     }
-    // Members of three, two and one digits take four, three and two bytes. Row 0
-    // stays, so that no set is empty.
-    for flow in document.flows.iter_mut().rev() {
-        for row in (1..LAST_NUMBER).rev() {
+    // Members of three, two and one digits take four, three and two bytes. Each
+    // set keeps the row that its name has.
+    for flow in &mut document.flows[..filled] {
+        for &row in full.iter().rev().filter(|&&row| row != flow.name) {
             let excess = bytes - length;
             let member = row.to_string().len() + 1;
             if member <= excess && excess - member != 1 {
@@ -77,5 +81,6 @@ pub fn file_of_length(random: &mut Random, length: usize) -> Vec<u8> {
             }
         }
     }
+    document.flows.sort_by_key(|flow| flow.name);
     print(&document)
 }

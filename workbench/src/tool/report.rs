@@ -146,3 +146,48 @@ fn window(line: &[u8], mark: Option<Range<usize>>) -> (String, Option<Range<usiz
     });
     (text, marked)
 }
+
+#[cfg(test)]
+mod tests {
+    use super::*;
+
+    #[test]
+    fn colours_only_where_asked_for() {
+        let channel = Channel {
+            row: 1,
+            name: Some(7),
+            claim: None,
+            verdict: [true, false, true, true],
+        };
+        let outcome = Outcome::Accepted {
+            claims: 0,
+            channels: vec![channel],
+        };
+        let plain = text("a.txt", &outcome, false);
+        let coloured = text("a.txt", &outcome, true);
+        assert!(!plain.contains('\x1b'));
+        assert!(coloured.contains("\x1b[32myes\x1b[0m"));
+        assert!(coloured.contains("\x1b[31mno\x1b[0m"));
+        let codes = ["\x1b[0m", "\x1b[1m", "\x1b[31m", "\x1b[32m"];
+        let stripped = codes
+            .iter()
+            .fold(coloured, |text, code| text.replace(code, ""));
+        assert_eq!(stripped, plain);
+    }
+
+    #[test]
+    fn marks_stand_below_what_is_shown() {
+        assert_eq!(window(b"abc", Some(1..2)), ("abc".to_string(), Some(1..2)));
+        // Past the end of the line.
+        assert_eq!(window(b"abc", Some(3..4)), ("abc".to_string(), Some(3..4)));
+        // A byte that is spelled out is marked whole.
+        let (shown, marked) = window(b"a\xe9b", Some(1..2));
+        assert_eq!((shown.as_str(), marked), ("a\\xe9b", Some(1..5)));
+        // Of a long line the part around the mark is shown.
+        let line = [b"x".repeat(20_000), b"y".to_vec(), b"z".repeat(10_000)].concat();
+        let (shown, marked) = window(&line, Some(20_000..20_001));
+        assert!(shown.starts_with(".. x") && shown.ends_with("z .."));
+        assert_eq!(&shown[marked.unwrap()], "y");
+        assert!(shown.len() < 110);
+    }
+}
