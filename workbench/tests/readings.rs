@@ -1,12 +1,27 @@
-//! The readings of open places, items 1 to 22, as far as documents show them.
+//! The readings of open places, items 1 to 22, as far as documents show them: by
+//! the reference, with which the library is compared on every file.
 
+use workbench::differential::{compare_file, Tally};
 use workbench::generate::{chain, file_of_length, Random};
-use workbench::reference::check::{judge, load, report, verdict};
-use workbench::reference::document::{LAST_NUMBER, MAX_FILE_BYTES};
+use workbench::reference::check::{self, judge, verdict};
+use workbench::reference::document::{Document, LAST_NUMBER, MAX_FILE_BYTES};
 use workbench::reference::print::print;
 use workbench::reference::refusal::{refusal, Refusal};
 use workbench::reference::steps::{can_share_run, is_walk, part_at_spawn, steps};
 use workbench::reference::structure::scopes;
+
+/// What load answers, after the library was compared on the file.
+fn load(file: &[u8]) -> Result<Document, Refusal> {
+    let compared = compare_file(&mut Random::new(8), file, &mut Tally::default());
+    assert_eq!(compared, Ok(()), "{}", file.escape_ascii());
+    check::load(file)
+}
+
+/// What the program prints, after the library was compared on the file.
+fn report(file: &[u8]) -> String {
+    load(file).ok();
+    check::report(file)
+}
 
 fn refused(file: impl AsRef<[u8]>) -> (u16, usize) {
     let Refusal { number, line } = load(file.as_ref()).expect_err("refused");

@@ -101,9 +101,9 @@ fn compare_write(
         same_bytes("write", "store", store, &before)?;
     }
     if answer as u8 == 0 && length <= MAX_FILE_BYTES {
-        let mut again = vec![0xff; STORE_SIZE];
-        let loaded = ffi::load(&text[..length], &mut again);
-        if loaded as u8 != 0 || again != before[..STORE_SIZE] {
+        let mut again = Lent::holding(&[0xff; STORE_SIZE]);
+        let loaded = ffi::load(&text[..length], again.content_mut());
+        if loaded as u8 != 0 || !again.holds(&before[..STORE_SIZE]) {
             return Err("what write gives does not load back to the same bytes".to_string());
         }
     }

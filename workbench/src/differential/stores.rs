@@ -1,5 +1,6 @@
 //! Stores to compare the library on, of any bytes and any length.
 
+use super::lent::Lent;
 use crate::checker::ffi;
 use crate::generate::{
     accepted_document, claim_anything, full_document, loadable_document, loose_document, widen,
@@ -45,9 +46,9 @@ impl StoreKind {
 
 /// The store that the library leaves of a document's text.
 pub fn loaded_store(document: &Document) -> Vec<u8> {
-    let mut store = vec![0; STORE_SIZE];
-    ffi::load(&print(document), &mut store);
-    store
+    let mut store = Lent::holding(&[0; STORE_SIZE]);
+    ffi::load(&print(document), store.content_mut());
+    store.content().to_vec()
 }
 
 fn draw_loaded(random: &mut Random) -> Vec<u8> {
@@ -90,7 +91,11 @@ pub fn draw_store(random: &mut Random, kind: StoreKind) -> Vec<u8> {
         StoreKind::Loaded => draw_loaded(random),
         StoreKind::OneByte => {
             let mut store = draw_loaded(random);
-            let offset = random.below(STORE_SIZE);
+            let offset = match random.below(4) {
+                0 => STORE_SIZE - 1 - random.below(4),
+                1 => random.below(400),
+                _ => random.below(STORE_SIZE),
+            };
             store[offset] = likely_byte(random);
             store
         }
