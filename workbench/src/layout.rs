@@ -11,7 +11,7 @@ use crate::reference::document::{
 use crate::reference::structure;
 
 /// How many rows and names there can be.
-const LIMIT: usize = LAST_NUMBER + 1;
+pub const LIMIT: usize = LAST_NUMBER + 1;
 const ROW_SIZE: usize = 8;
 /// The members of a set: unit and the rows.
 const SET_SIZE: usize = LIMIT + 1;
@@ -73,6 +73,27 @@ fn encode_set(place: &mut [u8], set: &Set) {
     }
 }
 
+/// The row of a number; none if it is absent or has no kind.
+pub fn row(store: &[u8], row: usize) -> Option<Row> {
+    decode_row(store[..FLOWS].chunks(ROW_SIZE).nth(row)?)
+}
+
+/// The flags of a name's set: unit, then the rows.
+pub fn flow_flags(store: &[u8], name: usize) -> &[u8] {
+    &store[FLOWS + name * SET_SIZE..][..SET_SIZE]
+}
+
+/// The flags of a channel row's set of messages.
+pub fn comm_flags(store: &[u8], channel: usize) -> &[u8] {
+    &store[COMMS + channel * SET_SIZE..][..SET_SIZE]
+}
+
+/// The code of a row's claim: 0 for none, else one more than the word's place in
+/// `Word::ALL`.
+pub fn claim_code(store: &[u8], channel: usize) -> usize {
+    usize::from(store[CLAIMS + channel])
+}
+
 /// The document whose bytes these are; none if no load leaves them.
 pub fn decode(store: &[u8]) -> Option<Document> {
     let store = store.get(..STORE_SIZE)?;
@@ -83,21 +104,18 @@ pub fn decode(store: &[u8]) -> Option<Document> {
         }
         document.rows.push(decode_row(place)?);
     }
-    for (name, place) in store[FLOWS..COMMS].chunks(SET_SIZE).enumerate() {
-        let set = decode_set(place);
+    for number in 0..LIMIT {
+        let set = decode_set(flow_flags(store, number));
         if !set.is_empty() {
-            document.flows.push(Flow { name, set });
+            document.flows.push(Flow { name: number, set });
         }
-    }
-    for (channel, place) in store[COMMS..CLAIMS].chunks(SET_SIZE).enumerate() {
-        let set = decode_set(place);
+        let set = decode_set(comm_flags(store, number));
+        let channel = number;
         if !set.is_empty() {
             document.comms.push(Comm { channel, set });
         }
-    }
-    for (channel, &code) in store[CLAIMS..].iter().enumerate() {
-        if code > 0 {
-            let word = *Word::ALL.get(usize::from(code) - 1)?;
+        if let Some(index) = claim_code(store, channel).checked_sub(1) {
+            let word = *Word::ALL.get(index)?;
             document.claims.push(Claim { channel, word });
         }
     }

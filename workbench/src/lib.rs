@@ -4,6 +4,7 @@
 
 #![deny(unsafe_code)]
 
+pub mod baseline;
 pub mod checker;
 pub mod differential;
 pub mod explain;

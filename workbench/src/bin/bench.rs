@@ -1,9 +1,10 @@
-//! The proved library against the reference, call by call on the same inputs in
-//! the same run: `bench`.
+//! The proved library against the reference and a judge written for speed, call
+//! by call on the same inputs in the same run: `bench`.
 
 use std::hint::black_box;
 use std::time::{Duration, Instant};
 
+use workbench::baseline;
 use workbench::checker::ffi;
 use workbench::generate::{dense, file_of_length, shared, workers, Random};
 use workbench::layout::{encode, STORE_SIZE};
@@ -20,15 +21,19 @@ const SAMPLE_TIME: Duration = Duration::from_millis(2);
 const ENOUGH_TIME: Duration = Duration::from_millis(500);
 
 const ABOUT: &str = "\
-Library: the proved C functions on a lent store of 52,960 bytes; each call tests
-the store's bytes anew (20 to 22). Reference: the Rust of src/reference on a
-document of vectors and ordered sets, compiled by rustc in release mode; its load
-reads the bytes into a document, its other calls take that document. The store
-was not cleared before a load (load clears it itself) and holds what the load
-before it left; the output was not cleared before a write. Verdicts: one call for
-each chan row. Times are medians of 3 to 15 measurements; the ratio is library to
-reference, below 1 if the library is faster, with the smallest and largest ratio
-of single measurements.
+library    the proved C functions on a lent store of 52,960 bytes; each call but
+           load tests the store's bytes anew (20 to 22)
+reference  the Rust of src/reference, written to be read: load makes a document
+           of vectors and ordered sets, the other calls take that document
+fast       the Rust of src/baseline.rs, written for speed: judge and verdict over
+           sets of bits, on the same store, whose bytes it does not test
+
+All is compiled with optimization, runs in this process and takes the same input.
+Buffers are not cleared between calls: a load finds the store as the load before
+left it (and clears it itself), a write finds the text of the write before.
+Verdicts are one call for each chan row. Times are medians of 3 to 15
+measurements. A ratio is the library's time to the other's, below 1 if the library
+is faster: the median, then the smallest and the largest.
 ";
 
 /// A document, with its text if that is a file, and its bytes.
@@ -55,11 +60,6 @@ impl Input {
     }
 }
 
-/// The times of one call by library and reference, a pair for each sample.
-struct Times {
-    pairs: Vec<(f64, f64)>,
-}
-
 /// Seconds for one run of a function, over so many runs.
 fn seconds(runs: u32, call: &mut dyn FnMut()) -> f64 {
     let start = Instant::now();
@@ -78,17 +78,21 @@ fn runs_in_a_sample(call: &mut dyn FnMut()) -> u32 {
     runs
 }
 
-/// Measures both in turn, so that whatever slows the machine slows both.
-fn measure(mut library: impl FnMut(), mut reference: impl FnMut()) -> Times {
-    let library_runs = runs_in_a_sample(&mut library);
-    let reference_runs = runs_in_a_sample(&mut reference);
+/// Measures calls in turn, so that whatever slows the machine slows all: for
+/// each sample, the seconds of each call.
+fn measure(calls: &mut [&mut dyn FnMut()]) -> Vec<Vec<f64>> {
+    let runs: Vec<u32> = calls
+        .iter_mut()
+        .map(|call| runs_in_a_sample(call))
+        .collect();
     let start = Instant::now();
-    let mut pairs = vec![];
-    while pairs.len() < FEWEST_SAMPLES || pairs.len() < SAMPLES && start.elapsed() < ENOUGH_TIME {
-        let one = seconds(library_runs, &mut library);
-        pairs.push((one, seconds(reference_runs, &mut reference)));
+    let mut samples = vec![];
+    while samples.len() < FEWEST_SAMPLES || samples.len() < SAMPLES && start.elapsed() < ENOUGH_TIME
+    {
+        let timed = calls.iter_mut().zip(&runs);
+        samples.push(timed.map(|(call, &runs)| seconds(runs, call)).collect());
     }
-    Times { pairs }
+    samples
 }
 
 fn median(values: impl Iterator<Item = f64>) -> f64 {
@@ -97,7 +101,7 @@ fn median(values: impl Iterator<Item = f64>) -> f64 {
     values[values.len() / 2]
 }
 
-/// A time with three digits and its unit.
+/// A time with one decimal and its unit.
 fn in_words(seconds: f64) -> String {
     let (value, unit) = match seconds {
         _ if seconds < 1e-6 => (seconds * 1e9, "ns"),
@@ -107,20 +111,25 @@ fn in_words(seconds: f64) -> String {
     format!("{value:.1} {unit}")
 }
 
-impl Times {
-    fn print(&self, input: &str, call: &str) {
-        let library = median(self.pairs.iter().map(|pair| pair.0));
-        let reference = median(self.pairs.iter().map(|pair| pair.1));
-        let ratio = |pair: &(f64, f64)| pair.0 / pair.1;
-        let least = self.pairs.iter().map(ratio).fold(f64::INFINITY, f64::min);
-        let most = self.pairs.iter().map(ratio).fold(0.0, f64::max);
-        println!(
-            "{input:<28} {call:<8} {:>10} {:>10} {:>8.3}  {least:.3} to {most:.3}",
-            in_words(library),
-            in_words(reference),
-            library / reference,
-        );
+/// Prints the library's time, and for each other call its time, the ratio of the
+/// library's time to it, and the spread of that ratio.
+fn show(input: &str, call: &str, samples: &[Vec<f64>]) {
+    let time = |index: usize| median(samples.iter().map(|sample| sample[index]));
+    print!("{input:<24} {call:<8} {:>9}", in_words(time(0)));
+    for other in 1..samples[0].len() {
+        let ratios = samples.iter().map(|sample| sample[0] / sample[other]);
+        let least = ratios.clone().fold(f64::INFINITY, f64::min);
+        let most = ratios.clone().fold(0.0, f64::max);
+        let (other, ratio) = (in_words(time(other)), median(ratios));
+        let spread = format!("{least:.2}-{most:.2}");
+        print!(" | {other:>9} {ratio:>7.2} {spread:<13}");
     }
+    println!();
+}
+
+/// Takes a call's answer, so that the call is not left out.
+fn keep<T>(answer: T) {
+    black_box(answer);
 }
 
 /// Measures the calls on one input.
@@ -134,43 +143,34 @@ fn bench(input: &Input) {
     match &input.file {
         Some(file) => {
             let mut lent = vec![0; STORE_SIZE];
-            let library = || {
-                black_box(ffi::load(black_box(file), &mut lent));
-            };
-            let reference = || {
-                black_box(check::load(black_box(file)).is_ok());
-            };
-            measure(library, reference).print(name, "load");
+            let samples = measure(&mut [
+                &mut || keep(ffi::load(black_box(file), &mut lent)),
+                &mut || keep(check::load(black_box(file))),
+            ]);
+            show(name, "load", &samples);
         }
-        None => println!("{name:<28} load     its text is too long for a file"),
+        None => println!("{name:<24} load     its text is too long for a file"),
     }
-    let library = || {
-        black_box(ffi::judge(black_box(store)));
-    };
-    let reference = || {
-        black_box(check::judge(black_box(document)).is_ok());
-    };
-    measure(library, reference).print(name, "judge");
+    let samples = measure(&mut [
+        &mut || keep(ffi::judge(black_box(store))),
+        &mut || keep(check::judge(black_box(document))),
+        &mut || keep(baseline::judge(black_box(store))),
+    ]);
+    show(name, "judge", &samples);
     let channels = document.chan_rows();
-    let library = || {
-        for &channel in &channels {
-            black_box(ffi::verdict(black_box(store), channel));
-        }
-    };
-    let reference = || {
-        for &channel in &channels {
-            black_box(check::verdict(black_box(document), channel).is_ok());
-        }
-    };
-    measure(library, reference).print(name, "verdicts");
+    let each = |call: &dyn Fn(usize)| channels.iter().for_each(|&channel| call(channel));
+    let samples = measure(&mut [
+        &mut || each(&|channel| keep(ffi::verdict(black_box(store), channel))),
+        &mut || each(&|channel| keep(check::verdict(black_box(document), channel))),
+        &mut || each(&|channel| keep(baseline::verdict(black_box(store), channel))),
+    ]);
+    show(name, "verdicts", &samples);
     let mut out = vec![0; 4 * MAX_FILE_BYTES];
-    let library = || {
-        black_box(ffi::write(black_box(store), &mut out));
-    };
-    let reference = || {
-        black_box(check::write(black_box(document)));
-    };
-    measure(library, reference).print(name, "write");
+    let samples = measure(&mut [
+        &mut || keep(ffi::write(black_box(store), &mut out)),
+        &mut || keep(check::write(black_box(document))),
+    ]);
+    show(name, "write", &samples);
 }
 
 /// Says what is in the inputs, so that the table can be read.
@@ -180,7 +180,7 @@ fn describe(inputs: &[Input]) {
         let channels = input.document.chan_rows().len();
         let bytes = print(&input.document).len();
         println!(
-            "{:<28} {rows} rows, {flows} flows, {comms} comms, {claims} claims, \
+            "{:<24} {rows} rows, {flows} flows, {comms} comms, {claims} claims, \
              {channels} channels, {bytes} bytes",
             input.name
         );
@@ -189,9 +189,18 @@ fn describe(inputs: &[Input]) {
 }
 
 fn head() {
+    let columns = ["ratio", "spread"];
     println!(
-        "{:<28} {:<8} {:>10} {:>10} {:>8}  spread",
-        "input", "call", "library", "reference", "ratio"
+        "{:<24} {:<8} {:>9} | {:>9} {:>7} {:<13} | {:>9} {:>7} {}",
+        "input",
+        "call",
+        "library",
+        "reference",
+        columns[0],
+        columns[1],
+        "fast",
+        columns[0],
+        columns[1]
     );
 }
 
