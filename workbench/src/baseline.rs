@@ -150,10 +150,8 @@ impl Program {
                 left,
                 right,
             } => self.forms(subject).all(|(_, form)| {
-                let (branch, inner) = match form {
-                    Form::Left { inner } => (left, *inner),
-                    Form::Right { inner } => (right, *inner),
-                    _ => return true,
+                let Some((branch, inner)) = form.branch_taken(left, right) else {
+                    return true;
                 };
                 self.values[inner].lies_in(self.values[branch.name])
                     && lies(self.results[branch.row].0)

@@ -41,6 +41,11 @@ fn files_with_wide_tables() {
 }
 
 #[test]
+fn files_with_crowded_tables() {
+    compare(FileKind::Crowded, 1_000, &[0, 20], &[0, 11]);
+}
+
+#[test]
 fn files_with_loose_tables() {
     compare(FileKind::Loose, 1_500, &[0, 20], &[10]);
 }

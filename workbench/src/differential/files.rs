@@ -1,8 +1,9 @@
 //! Files to compare the library on.
 
 use crate::generate::{
-    accepted_document, claim_anything, damage, damaged_file, edit_byte, edit_lines, file_of_length,
-    full_document, loadable_document, loose_document, structural_file, wide_document, Random, Size,
+    accepted_document, claim_anything, crowded_document, damage, damaged_file, edit_byte,
+    edit_lines, file_of_length, full_document, loadable_document, loose_document, structural_file,
+    wide_document, Random, Size,
 };
 use crate::reference::document::MAX_FILE_BYTES;
 use crate::reference::print::print;
@@ -16,6 +17,8 @@ pub enum FileKind {
     Loadable,
     /// Its tables are wider than need be.
     Wide,
+    /// Its tables hold very much, and keep the flow rules.
+    Crowded,
     /// Its tables are any that load takes.
     Loose,
     /// Edits of bytes, numbers, sets and lines.
@@ -35,10 +38,11 @@ pub enum FileKind {
 }
 
 impl FileKind {
-    pub const ALL: [FileKind; 11] = [
+    pub const ALL: [FileKind; 12] = [
         FileKind::Accepted,
         FileKind::Loadable,
         FileKind::Wide,
+        FileKind::Crowded,
         FileKind::Loose,
         FileKind::Damaged,
         FileKind::ByteEdit,
@@ -67,9 +71,10 @@ pub fn draw_file(random: &mut Random, kind: FileKind) -> Vec<u8> {
     match kind {
         FileKind::Accepted => print(&accepted_document(random, size)),
         FileKind::Loadable => print(&loadable_document(random, size)),
-        FileKind::Wide | FileKind::Loose => {
+        FileKind::Wide | FileKind::Crowded | FileKind::Loose => {
             let mut document = match kind {
                 FileKind::Wide => wide_document(random, size),
+                FileKind::Crowded => crowded_document(random, size),
                 _ => loose_document(random, size),
             };
             claim_anything(random, &mut document);

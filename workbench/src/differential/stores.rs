@@ -65,7 +65,7 @@ fn draw_loaded(random: &mut Random) -> Vec<u8> {
 }
 
 /// A document with many members in its sets: its text may be of any length.
-fn crowded_document(random: &mut Random) -> Document {
+fn long_document(random: &mut Random) -> Document {
     let mut document = full_document(random);
     let mut tables = Tables::of(&document);
     let count = random.below(40_000);
@@ -113,7 +113,7 @@ pub fn draw_store(random: &mut Random, kind: StoreKind) -> Vec<u8> {
             let cut = random.below(STORE_SIZE);
             [&one[..cut], &other[cut..]].concat()
         }
-        StoreKind::Encoded => encode(&crowded_document(random)),
+        StoreKind::Encoded => encode(&long_document(random)),
         StoreKind::Random => (0..STORE_SIZE).map(|_| random.draw() as u8).collect(),
         StoreKind::Sparse => {
             let mut store = vec![0; STORE_SIZE];

@@ -99,10 +99,8 @@ pub fn demands(document: &Document, row: usize) -> Vec<Demand> {
             left,
             right,
         } => unpacked(document, bind, subject, |form| {
-            let (branch, inner) = match form {
-                Form::Left { inner } => (left, *inner),
-                Form::Right { inner } => (right, *inner),
-                _ => return vec![],
+            let Some((branch, inner)) = form.branch_taken(left, right) else {
+                return vec![];
             };
             let mut fed = vec![(inner, Table::Values(branch.name))];
             fed.extend(document.result_name(branch.row).map(|name| (name, bound)));

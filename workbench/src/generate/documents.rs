@@ -16,12 +16,23 @@ pub fn least_document(random: &mut Random, size: Size) -> Document {
 
 /// The same with tables that keep the flow rules but are wider.
 pub fn wide_document(random: &mut Random, size: Size) -> Document {
+    let count = 1 + random.below(4);
+    widened(random, size, count)
+}
+
+/// The same with tables that keep the flow rules and hold very much.
+pub fn crowded_document(random: &mut Random, size: Size) -> Document {
+    let count = 5 + random.below(4 * size.rows);
+    widened(random, size, count)
+}
+
+/// The least tables that hold so many random members more.
+fn widened(random: &mut Random, size: Size, count: usize) -> Document {
     let mut document = Document {
         rows: program(random, size),
         ..Document::default()
     };
     let mut tables = Tables::empty();
-    let count = 1 + random.below(4);
     widen(random, &document.rows, &mut tables, count);
     tables.close(&document.rows).put(&mut document);
     document

@@ -84,13 +84,12 @@ impl Tables {
                 right,
             } => {
                 for member in self.values[subject].rows.clone() {
-                    let (branch, inner) = match form_at(member) {
-                        Some(Form::Left { inner }) => (left, inner),
-                        Some(Form::Right { inner }) => (right, inner),
-                        _ => continue,
-                    };
-                    grown |= self.feed(inner, branch.name);
-                    grown |= self.feed(last_name(rows, branch.row), name);
+                    let form = form_at(member);
+                    let taken = form.and_then(|form| form.branch_taken(left, right));
+                    if let Some((branch, inner)) = taken {
+                        grown |= self.feed(inner, branch.name);
+                        grown |= self.feed(last_name(rows, branch.row), name);
+                    }
                 }
             }
             Form::Apply { function, argument } => {

@@ -179,6 +179,16 @@ impl Form {
         }
     }
 
+    /// The branch that a left or right value takes in a case, and the name of
+    /// what the value holds; none for other forms.
+    pub fn branch_taken(&self, left: Branch, right: Branch) -> Option<(Branch, Name)> {
+        match self {
+            Form::Left { inner } => Some((left, *inner)),
+            Form::Right { inner } => Some((right, *inner)),
+            _ => None,
+        }
+    }
+
     /// Whether a row with this form is a value row.
     pub fn is_value(&self) -> bool {
         matches!(

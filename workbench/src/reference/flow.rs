@@ -50,10 +50,8 @@ pub fn rule_holds(document: &Document, row: usize) -> bool {
             left,
             right,
         } => forms(values(subject)).iter().all(|form| {
-            let (branch, inner) = match form {
-                Form::Left { inner } => (left, *inner),
-                Form::Right { inner } => (right, *inner),
-                _ => return true,
+            let Some((branch, inner)) = form.branch_taken(left, right) else {
+                return true;
             };
             values(inner).lies_in(values(branch.name)) && result_lies_in_bound(branch.row)
         }),

@@ -244,12 +244,8 @@ fn own_step(document: &Document, path: &Path, state: &State) -> Option<Vec<(Path
             right,
         } => {
             let (form, inside) = form_of(document, value_of(subject)?)?;
-            let (branch, inner) = match form {
-                Form::Left { inner } => (left, inner),
-                Form::Right { inner } => (right, inner),
-                _ => return None,
-            };
-            let value = inside.get(inner)?.clone();
+            let (branch, inner) = form.branch_taken(*left, *right)?;
+            let value = inside.get(&inner)?.clone();
             let environment = with(&state.environment, [(branch.name, value)]);
             Some(vec![call(path, state, bind, branch.row, environment)])
         }
