@@ -33,7 +33,7 @@ Buffers are not cleared between calls: a load finds the store as the load before
 left it (and clears it itself), a write finds the text of the write before.
 Verdicts are one call for each chan row. Times are medians of 3 to 15
 measurements. A ratio is the library's time to the other's, below 1 if the library
-is faster: the median, then the smallest and the largest.
+is faster: the median, and as spread the middle half of all measurements.
 ";
 
 /// A document, with its text if that is a file, and its bytes.
@@ -95,10 +95,11 @@ fn measure(calls: &mut [&mut dyn FnMut()]) -> Vec<Vec<f64>> {
     samples
 }
 
-fn median(values: impl Iterator<Item = f64>) -> f64 {
+/// The values that a quarter, a half and three quarters of all do not exceed.
+fn quartiles(values: impl Iterator<Item = f64>) -> [f64; 3] {
     let mut values: Vec<f64> = values.collect();
     values.sort_by(f64::total_cmp);
-    values[values.len() / 2]
+    [1, 2, 3].map(|quarter| values[(values.len() - 1) * quarter / 4])
 }
 
 /// A time with one decimal and its unit.
@@ -114,15 +115,13 @@ fn in_words(seconds: f64) -> String {
 /// Prints the library's time, and for each other call its time, the ratio of the
 /// library's time to it, and the spread of that ratio.
 fn show(input: &str, call: &str, samples: &[Vec<f64>]) {
-    let time = |index: usize| median(samples.iter().map(|sample| sample[index]));
-    print!("{input:<24} {call:<8} {:>9}", in_words(time(0)));
+    let time = |index: usize| in_words(quartiles(samples.iter().map(|sample| sample[index]))[1]);
+    print!("{input:<24} {call:<8} {:>9}", time(0));
     for other in 1..samples[0].len() {
         let ratios = samples.iter().map(|sample| sample[0] / sample[other]);
-        let least = ratios.clone().fold(f64::INFINITY, f64::min);
-        let most = ratios.clone().fold(0.0, f64::max);
-        let (other, ratio) = (in_words(time(other)), median(ratios));
-        let spread = format!("{least:.2}-{most:.2}");
-        print!(" | {other:>9} {ratio:>7.2} {spread:<13}");
+        let [low, ratio, high] = quartiles(ratios);
+        let spread = format!("{low:.2}-{high:.2}");
+        print!(" | {:>9} {ratio:>7.2} {spread:<13}", time(other));
     }
     println!();
 }
