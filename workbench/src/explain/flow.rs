@@ -119,13 +119,8 @@ pub fn demands(document: &Document, row: usize) -> Vec<Demand> {
             })
         }
         Form::Sync { event } => sync(document, bind, event),
-        Form::Chan
-        | Form::Send { .. }
-        | Form::Recv { .. }
-        | Form::Pair { .. }
-        | Form::Left { .. }
-        | Form::Right { .. }
-        | Form::Fun { .. } => {
+        // The value rows.
+        _ => {
             let mut names = vec![(bind.name, "its name")];
             if let Form::Fun { own, .. } = bind.form {
                 names.push((own, "the function's own name"));
