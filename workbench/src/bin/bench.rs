@@ -14,7 +14,7 @@ use workbench::reference::print::print;
 use workbench::samples::A;
 
 /// How often a call is measured, at most and at least.
-const SAMPLES: usize = 15;
+const SAMPLES: usize = 31;
 const FEWEST_SAMPLES: usize = 3;
 /// How long one measurement takes at least, and when no more are taken.
 const SAMPLE_TIME: Duration = Duration::from_millis(2);
@@ -31,9 +31,10 @@ fast       the Rust of src/baseline.rs, written for speed: judge and verdict ove
 All is compiled with optimization, runs in this process and takes the same input.
 Buffers are not cleared between calls: a load finds the store as the load before
 left it (and clears it itself), a write finds the text of the write before.
-Verdicts are one call for each chan row. Times are medians of 3 to 15
-measurements. A ratio is the library's time to the other's, below 1 if the library
-is faster: the median, and as spread the middle half of all measurements.
+Verdicts are one call for each chan row. Times are the best of 3 to 31
+measurements, taken in turn. A ratio is the library's time to the other's, below 1
+if the library is faster; its spread is that of the middle half of the single
+measurements.
 ";
 
 /// A document, with its text if that is a file, and its bytes.
@@ -95,11 +96,21 @@ fn measure(calls: &mut [&mut dyn FnMut()]) -> Vec<Vec<f64>> {
     samples
 }
 
-/// The values that a quarter, a half and three quarters of all do not exceed.
-fn quartiles(values: impl Iterator<Item = f64>) -> [f64; 3] {
+/// The values that a quarter and three quarters of all do not exceed.
+fn middle_half(values: impl Iterator<Item = f64>) -> [f64; 2] {
     let mut values: Vec<f64> = values.collect();
     values.sort_by(f64::total_cmp);
-    [1, 2, 3].map(|quarter| values[(values.len() - 1) * quarter / 4])
+    [1, 3].map(|quarter| values[(values.len() - 1) * quarter / 4])
+}
+
+/// A ratio with two digits or more that count.
+fn ratio_text(ratio: f64) -> String {
+    let decimals = match ratio {
+        _ if ratio < 0.1 => 4,
+        _ if ratio < 10.0 => 2,
+        _ => 1,
+    };
+    format!("{ratio:.decimals$}")
 }
 
 /// A time with one decimal and its unit.
@@ -115,13 +126,16 @@ fn in_words(seconds: f64) -> String {
 /// Prints the library's time, and for each other call its time, the ratio of the
 /// library's time to it, and the spread of that ratio.
 fn show(input: &str, call: &str, samples: &[Vec<f64>]) {
-    let time = |index: usize| in_words(quartiles(samples.iter().map(|sample| sample[index]))[1]);
-    print!("{input:<24} {call:<8} {:>9}", time(0));
+    let best = |index: usize| {
+        let times = samples.iter().map(|sample| sample[index]);
+        times.fold(f64::INFINITY, f64::min)
+    };
+    print!("{input:<24} {call:<8} {:>9}", in_words(best(0)));
     for other in 1..samples[0].len() {
+        let ratio = ratio_text(best(0) / best(other));
         let ratios = samples.iter().map(|sample| sample[0] / sample[other]);
-        let [low, ratio, high] = quartiles(ratios);
-        let spread = format!("{low:.2}-{high:.2}");
-        print!(" | {:>9} {ratio:>7.2} {spread:<13}", time(other));
+        let spread = middle_half(ratios).map(ratio_text).join("-");
+        print!(" | {:>9} {ratio:>7} {spread:<13}", in_words(best(other)));
     }
     println!();
 }
