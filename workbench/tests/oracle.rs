@@ -229,7 +229,7 @@ fn compare(file: &[u8], tally: &mut BTreeMap<u16, usize>) {
 fn damaged_files() {
     let mut random = Random::new(31);
     let mut tally = BTreeMap::new();
-    for _ in 0..60_000 {
+    for _ in 0..100_000 {
         let size = Size {
             rows: 3 + random.below(12),
             names: 20,
