@@ -5,16 +5,20 @@
 
 mod damage;
 mod documents;
+mod limits;
 mod program;
+mod scaled;
 mod structure;
 mod tables;
 
 pub use damage::{damage, damaged_file, edit_byte, edit_lines, edit_number, edit_set};
 pub use documents::{
-    accepted_document, claim_anything, claim_falsely, claim_truly, contested, least_document,
-    loadable_document, loose_document, wide_document,
+    accepted_document, claim_anything, claim_falsely, claim_truly, contested, crowded_document,
+    least_document, loadable_document, loose_document, wide_document,
 };
+pub use limits::{chain, file_of_length, full_document};
 pub use program::program;
+pub use scaled::{dense, shared, workers};
 pub use structure::{break_structure, structural_file};
 pub use tables::{narrow, widen, Tables};
 

@@ -1,7 +1,16 @@
-//! The workbench: a reference for the channel checker, written from its
-//! specification alone, and generators of programs to try it on.
+//! The workbench: the proved checker called from Rust, a reference for it
+//! written from its specification alone, generators of programs to try both on,
+//! and the explanation of refusals.
 
-#![forbid(unsafe_code)]
+#![deny(unsafe_code)]
 
+pub mod baseline;
+pub mod checker;
+pub mod differential;
+pub mod explain;
 pub mod generate;
+pub mod layout;
 pub mod reference;
+pub mod samples;
+pub mod text;
+pub mod tool;

@@ -1,305 +1,155 @@
 //! Every example of document 01, the marked and the unmarked ones, and the
-//! slips it names.
+//! slips it names: by the reference, and by the proved library.
 
-use workbench::reference::check::{counts, judge, load, report, verdict, write};
-use workbench::reference::refusal::refusal;
+use workbench::checker::{Counts, Reason, Refusal, Store};
+use workbench::reference::check;
+use workbench::samples::{
+    a_with, A, BODY_RESULT, BRANCHES, BRANCH_RESULT, LOOP, PARENT_THEN_CHILD, TWO_CHANNELS,
+    TWO_RECEIVERS, TWO_SENDERS,
+};
 
-const A: &str = "\
-[dispenser 1]
-[row 0 [bind 0 [unit] 1]]
-[row 1 [bind 1 [chan] 2]]
-[row 2 [bind 2 [spawn 3] 6]]
-[row 3 [bind 3 [recv 1] 4]]
-[row 4 [bind 4 [sync 3] 5]]
-[row 5 [result 4]]
-[row 6 [bind 5 [send 1 0] 7]]
-[row 7 [bind 6 [sync 5] 8]]
-[row 8 [result 6]]
-[flow 0 [u]]
-[flow 1 [1]]
-[flow 2 [u]]
-[flow 3 [3]]
-[flow 4 [u]]
-[flow 5 [6]]
-[flow 6 [u]]
-[comm 1 [u]]
-[claim 1 one-shot]
-";
-
-/// A with one line replaced; an empty new line takes it out.
-fn a_with(old: &str, new: &str) -> String {
-    assert!(A.contains(old), "{old}");
-    let new = if new.is_empty() {
-        String::new()
-    } else {
-        format!("{new}\n")
-    };
-    A.replace(&format!("{old}\n"), &new)
+/// What the program prints for a file, by the library's calls.
+fn library_report(file: &str) -> String {
+    match try_library_report(file) {
+        Ok(text) => text,
+        Err(refusal) => format!("[refused {} {}]\n", refusal.reason.number(), refusal.line),
+    }
 }
 
-fn refused(number: u16, line: usize) -> String {
-    format!("[refused {number} {line}]\n")
+fn try_library_report(file: &str) -> Result<String, Refusal> {
+    let mut store = Store::new();
+    let counts = store.load(file.as_bytes())?;
+    let mut text = format!("[accepted {}]\n", store.judge()?);
+    for row in 0..counts.rows {
+        match store.verdict(row) {
+            Ok(verdict) => {
+                let words = verdict.map(|holds| if holds { "yes" } else { "no" });
+                text += &format!("[channel {row} [{}]]\n", words.join(" "));
+            }
+            Err(refusal) => assert_eq!(refusal.reason, Reason::NotAChannel),
+        }
+    }
+    Ok(text)
+}
+
+/// Both print the same for a file.
+fn assert_report(file: &str, expected: &str) {
+    assert_eq!(check::report(file.as_bytes()), expected, "{file}");
+    assert_eq!(library_report(file), expected, "{file}");
+}
+
+fn assert_refused(file: &str, number: u16, line: usize) {
+    assert_report(file, &format!("[refused {number} {line}]\n"));
+}
+
+/// A file without claims, in which one channel has a verdict.
+fn assert_verdict(file: &str, channel: usize, verdict: &str) {
+    let expected = format!("[accepted 0]\n[channel {channel} [{verdict}]]\n");
+    assert_report(file, &expected);
 }
 
 #[test]
 fn listing_a_is_accepted() {
-    let document = load(A.as_bytes()).unwrap();
-    assert_eq!(counts(&document), [9, 7, 1, 1]);
-    assert_eq!(judge(&document), Ok(1));
-    assert_eq!(verdict(&document, 1), Ok([true; 4]));
-    assert_eq!(write(&document), A.as_bytes());
-    assert_eq!(
-        report(A.as_bytes()),
-        "[accepted 1]\n[channel 1 [yes yes yes yes]]\n"
-    );
+    assert_report(A, "[accepted 1]\n[channel 1 [yes yes yes yes]]\n");
+    let document = check::load(A.as_bytes()).unwrap();
+    assert_eq!(check::counts(&document), [9, 7, 1, 1]);
+    assert_eq!(check::write(&document), A.as_bytes());
+    let mut store = Store::new();
+    let counts = Counts {
+        rows: 9,
+        flows: 7,
+        comms: 1,
+        claims: 1,
+    };
+    assert_eq!(store.load(A.as_bytes()), Ok(counts));
+    let mut out = vec![0; A.len()];
+    assert_eq!(store.write(&mut out), Ok(370));
+    assert_eq!(out, A.as_bytes());
 }
 
 #[test]
 fn marked_refusals() {
-    let cases = [
-        (a_with("[flow 4 [u]]", ""), 10, 6),
-        (a_with("[comm 1 [u]]", ""), 10, 9),
-        (a_with("[claim 1 one-shot]", "[claim 2 one-shot]"), 9, 19),
-        (a_with("[row 8 [result 6]]", "[row 8 [result 3]]"), 8, 10),
-        ("[dispenser 1]\n".to_string(), 4, 2),
-        (
-            a_with("[row 1 [bind 1 [chan] 2]]", "[row 1 [bind 1 [chan] 159]]"),
-            6,
-            3,
-        ),
-        (
-            a_with("[row 1 [bind 1 [chan] 2]]", "[row 1 [bind 1 [chan] 160]]"),
-            3,
-            3,
-        ),
-    ];
-    for (file, number, line) in cases {
-        assert_eq!(report(file.as_bytes()), refused(number, line), "{file}");
-    }
+    assert_refused(&a_with("[flow 4 [u]]", ""), 10, 6);
+    assert_refused(&a_with("[comm 1 [u]]", ""), 10, 9);
+    let claim_2 = a_with("[claim 1 one-shot]", "[claim 2 one-shot]");
+    assert_refused(&claim_2, 9, 19);
+    let result_3 = a_with("[row 8 [result 6]]", "[row 8 [result 3]]");
+    assert_refused(&result_3, 8, 10);
+    assert_refused("[dispenser 1]\n", 4, 2);
+    let row_1 = "[row 1 [bind 1 [chan] 2]]";
+    assert_refused(&a_with(row_1, "[row 1 [bind 1 [chan] 159]]"), 6, 3);
+    assert_refused(&a_with(row_1, "[row 1 [bind 1 [chan] 160]]"), 3, 3);
 }
 
 #[test]
 fn claim_absent_is_accepted_with_none() {
-    let file = a_with("[claim 1 one-shot]", "");
-    let document = load(file.as_bytes()).unwrap();
-    assert_eq!(judge(&document), Ok(0));
-    assert_eq!(
-        report(file.as_bytes()),
-        "[accepted 0]\n[channel 1 [yes yes yes yes]]\n"
-    );
+    assert_verdict(&a_with("[claim 1 one-shot]", ""), 1, "yes yes yes yes");
 }
 
 #[test]
 fn verdict_of_no_channel_is_24_before_10() {
-    let document = load(A.as_bytes()).unwrap();
-    for row in [0, 2, 3, 8, 9, 159, 160, usize::MAX] {
-        assert_eq!(verdict(&document, row), Err(refusal(24, 0)));
+    for (file, of_channel) in [(A, None), (&a_with("[flow 4 [u]]", ""), Some((10, 6)))] {
+        let document = check::load(file.as_bytes()).unwrap();
+        let mut store = Store::new();
+        store.load(file.as_bytes()).unwrap();
+        for row in (0..300).chain([1 << 8 | 1, 1 << 32 | 1, 1 << 63 | 1, usize::MAX]) {
+            let expected = if row == 1 { of_channel } else { Some((24, 0)) };
+            let answer = check::verdict(&document, row).err();
+            assert_eq!(answer.map(|r| (r.number, r.line)), expected);
+            let answer = store.verdict(row).err();
+            let answer = answer.map(|r| (u16::from(r.reason.number()), r.line));
+            assert_eq!(answer, expected, "{row}");
+        }
     }
-    let broken = load(a_with("[flow 4 [u]]", "").as_bytes()).unwrap();
-    assert_eq!(verdict(&broken, 0), Err(refusal(24, 0)));
-    assert_eq!(verdict(&broken, 1), Err(refusal(10, 6)));
-}
-
-/// The answer of judge on rows and sets, and the verdict of one channel row.
-fn verdict_in(file: &str, channel: usize) -> [bool; 4] {
-    let document = load(file.as_bytes()).unwrap_or_else(|r| panic!("{r:?} {file}"));
-    verdict(&document, channel).unwrap_or_else(|r| panic!("{r:?} {file}"))
 }
 
 #[test]
 fn parent_sends_then_spawns_a_child_that_sends() {
-    let file = "\
-[dispenser 1]
-[row 0 [bind 0 [chan] 1]]
-[row 1 [bind 1 [send 0 0] 2]]
-[row 2 [bind 2 [sync 1] 3]]
-[row 3 [bind 3 [spawn 4] 6]]
-[row 4 [bind 4 [sync 1] 5]]
-[row 5 [result 4]]
-[row 6 [result 3]]
-[flow 0 [0]]
-[flow 1 [1]]
-[flow 2 [u]]
-[flow 3 [u]]
-[flow 4 [u]]
-[comm 0 [0]]
-";
-    assert_eq!(verdict_in(file, 0), [false, true, true, true]);
+    assert_verdict(PARENT_THEN_CHILD, 0, "no yes yes yes");
 }
 
 #[test]
 fn two_threads_send() {
-    let file = "\
-[dispenser 1]
-[row 0 [bind 0 [chan] 1]]
-[row 1 [bind 1 [send 0 0] 2]]
-[row 2 [bind 3 [spawn 3] 5]]
-[row 3 [bind 4 [sync 1] 4]]
-[row 4 [result 4]]
-[row 5 [bind 5 [sync 1] 6]]
-[row 6 [result 5]]
-[flow 0 [0]]
-[flow 1 [1]]
-[flow 3 [u]]
-[flow 4 [u]]
-[flow 5 [u]]
-[comm 0 [0]]
-[claim 0 fan-in]
-";
-    assert_eq!(verdict_in(file, 0), [false, false, false, true]);
-    assert_eq!(
-        report(file.as_bytes()),
-        "[accepted 1]\n[channel 0 [no no no yes]]\n"
-    );
+    let accepted = "[accepted 1]\n[channel 0 [no no no yes]]\n";
+    assert_report(TWO_SENDERS, accepted);
+    assert_report(&TWO_SENDERS.replace("fan-in", "many"), accepted);
     for word in ["one-shot", "one-to-one", "fan-out"] {
-        let file = file.replace("fan-in", word);
-        assert_eq!(report(file.as_bytes()), refused(11, 15));
+        assert_refused(&TWO_SENDERS.replace("fan-in", word), 11, 15);
     }
-    let file = file.replace("fan-in", "many");
-    assert!(report(file.as_bytes()).starts_with("[accepted 1]"));
 }
 
 #[test]
 fn two_threads_receive() {
-    let file = "\
-[dispenser 1]
-[row 0 [bind 0 [chan] 1]]
-[row 1 [bind 1 [recv 0] 2]]
-[row 2 [bind 3 [spawn 3] 5]]
-[row 3 [bind 4 [sync 1] 4]]
-[row 4 [result 0]]
-[row 5 [bind 5 [sync 1] 6]]
-[row 6 [result 0]]
-[flow 0 [0]]
-[flow 1 [1]]
-[flow 3 [u]]
-";
-    assert_eq!(verdict_in(file, 0), [true, false, true, false]);
+    assert_verdict(TWO_RECEIVERS, 0, "yes no yes no");
 }
-
-/// A function that sends once and calls itself: "one send row in a loop taken
-/// as one-shot" is a slip.
-const LOOP: &str = "\
-[dispenser 1]
-[row 0 [bind 0 [chan] 1]]
-[row 1 [bind 1 [fun 2 3 2] 6]]
-[row 2 [bind 4 [send 0 3] 3]]
-[row 3 [bind 5 [sync 4] 4]]
-[row 4 [bind 6 [apply 2 3] 5]]
-[row 5 [result 6]]
-[row 6 [bind 7 [apply 1 0] 7]]
-[row 7 [result 7]]
-[flow 0 [0]]
-[flow 1 [1]]
-[flow 2 [1]]
-[flow 3 [0]]
-[flow 4 [2]]
-[flow 5 [u]]
-[comm 0 [0]]
-";
 
 #[test]
 fn a_send_in_a_loop_is_not_one_shot() {
-    assert_eq!(verdict_in(LOOP, 0), [false, true, true, true]);
+    assert_verdict(LOOP, 0, "no yes yes yes");
 }
 
 #[test]
 fn a_funs_own_name_needs_its_value() {
-    let file = LOOP.replace("[flow 2 [1]]\n", "");
-    assert_eq!(report(file.as_bytes()), refused(10, 3));
+    assert_refused(&LOOP.replace("[flow 2 [1]]\n", ""), 10, 3);
 }
 
 #[test]
 fn the_two_branches_of_a_case_cannot_share_a_run() {
-    let file = "\
-[dispenser 1]
-[row 0 [bind 0 [chan] 1]]
-[row 1 [bind 1 [left 0] 2]]
-[row 2 [bind 2 [send 0 0] 3]]
-[row 3 [bind 3 [case 1 4 4 5 6] 8]]
-[row 4 [bind 6 [sync 2] 5]]
-[row 5 [result 6]]
-[row 6 [bind 7 [sync 2] 7]]
-[row 7 [result 7]]
-[row 8 [result 3]]
-[flow 0 [0]]
-[flow 1 [1]]
-[flow 2 [2]]
-[flow 3 [u]]
-[flow 4 [0]]
-[flow 6 [u]]
-[flow 7 [u]]
-[comm 0 [0]]
-[claim 0 one-shot]
-";
-    assert_eq!(verdict_in(file, 0), [true; 4]);
-    assert!(report(file.as_bytes()).starts_with("[accepted 1]"));
+    assert_report(BRANCHES, "[accepted 1]\n[channel 0 [yes yes yes yes]]\n");
 }
 
 #[test]
 fn a_bodys_result_steps_to_the_rest() {
-    // The send after the call is reached only through the body's result row.
-    let file = "\
-[dispenser 1]
-[row 0 [bind 0 [chan] 1]]
-[row 1 [bind 1 [fun 2 3 2] 3]]
-[row 2 [result 3]]
-[row 3 [bind 4 [send 0 0] 4]]
-[row 4 [bind 5 [apply 1 0] 5]]
-[row 5 [bind 6 [sync 4] 6]]
-[row 6 [bind 7 [sync 4] 7]]
-[row 7 [result 7]]
-[flow 0 [0]]
-[flow 1 [1]]
-[flow 2 [1]]
-[flow 3 [0]]
-[flow 4 [3]]
-[flow 5 [0]]
-[flow 6 [u]]
-[flow 7 [u]]
-[comm 0 [0]]
-";
-    assert_eq!(verdict_in(file, 0), [false, true, true, true]);
+    assert_verdict(BODY_RESULT, 0, "no yes yes yes");
 }
 
 #[test]
 fn a_branchs_result_steps_to_the_rest() {
-    // One send in a branch, one after the case: one walk passes both.
-    let file = "\
-[dispenser 1]
-[row 0 [bind 0 [chan] 1]]
-[row 1 [bind 1 [right 0] 2]]
-[row 2 [bind 2 [send 0 0] 3]]
-[row 3 [bind 3 [case 1 4 4 5 5] 7]]
-[row 4 [result 4]]
-[row 5 [bind 6 [sync 2] 6]]
-[row 6 [result 6]]
-[row 7 [bind 7 [sync 2] 8]]
-[row 8 [result 7]]
-[flow 0 [0]]
-[flow 1 [1]]
-[flow 2 [2]]
-[flow 3 [u]]
-[flow 5 [0]]
-[flow 6 [u]]
-[flow 7 [u]]
-[comm 0 [0]]
-";
-    assert_eq!(verdict_in(file, 0), [false, true, true, true]);
+    assert_verdict(BRANCH_RESULT, 0, "no yes yes yes");
 }
 
 #[test]
 fn chan_lines_rise_by_row() {
-    let file = "\
-[dispenser 1]
-[row 0 [bind 9 [chan] 1]]
-[row 1 [bind 3 [chan] 2]]
-[row 2 [result 3]]
-[flow 3 [1]]
-[flow 9 [0]]
-";
-    assert_eq!(
-        report(file.as_bytes()),
-        "[accepted 0]\n[channel 0 [yes yes yes yes]]\n[channel 1 [yes yes yes yes]]\n"
-    );
+    let channels = "[channel 0 [yes yes yes yes]]\n[channel 1 [yes yes yes yes]]\n";
+    assert_report(TWO_CHANNELS, &format!("[accepted 0]\n{channels}"));
 }

@@ -37,8 +37,7 @@ fn a_rule_holds_where_nothing_is_missing() {
                 failing = Some(row);
             }
             if let Some(form) = document.form(row) {
-                let word = form_word(&format!("{form:?}"));
-                *tally.entry((missing, word)).or_default() += 1;
+                *tally.entry((missing, form.word())).or_default() += 1;
             }
         }
         assert_eq!(first_failing_row(&document), failing);
@@ -49,15 +48,6 @@ fn a_rule_holds_where_nothing_is_missing() {
     println!("{tally:?}");
     // Every form's rule was met and was broken.
     assert_eq!(tally.len(), 28, "{tally:?}");
-}
-
-fn form_word(debug: &str) -> &'static str {
-    const WORDS: [&str; 14] = [
-        "Unit", "Chan", "Send", "Recv", "Pair", "Left", "Right", "Fun", "Spawn", "Sync", "First",
-        "Second", "Case", "Apply",
-    ];
-    let found = WORDS.iter().find(|word| debug.starts_with(*word));
-    found.copied().unwrap_or("other")
 }
 
 /// All documents with one member of one set taken out.

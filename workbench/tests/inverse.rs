@@ -2,6 +2,7 @@
 
 use std::collections::BTreeMap;
 
+use workbench::differential::{draw_file, FileKind};
 use workbench::generate::{
     accepted_document, damage, damaged_file, edit_byte, loadable_document, loose_document,
     structural_file, Random, Size,
@@ -149,24 +150,7 @@ fn any_bytes_are_answered() {
     let mut random = Random::new(15);
     let mut answers = BTreeMap::new();
     for _ in 0..20_000 {
-        let mut file = Vec::new();
-        let length = random.below(200);
-        let header = random.chance(3, 4);
-        if header {
-            file.extend(b"[dispenser 1]\n");
-        }
-        for _ in 0..length {
-            const PIECES: [&str; 24] = [
-                "[", "]", " ", "\n", "0", "1", "9", "159", "160", "u", "[row 0 ", "[row 1 ",
-                "[bind ", "[result ", "[unit]", "[chan]", "[flow ", "[comm ", "[claim ", "many",
-                "]]\n", "]\n", "[u]", "[case ",
-            ];
-            if random.chance(1, 30) {
-                file.push(random.below(256) as u8);
-            } else {
-                file.extend(PIECES[random.below(PIECES.len())].bytes());
-            }
-        }
+        let file = draw_file(&mut random, FileKind::Pieces);
         try_file(&file, &mut answers);
     }
     println!("{answers:?}");

@@ -152,11 +152,11 @@ fn structure_fault(document: &Document) -> Option<(u16, usize)> {
         }
     }
     for (row, content) in rows.iter().enumerate() {
-        let uses = match content {
-            Row::Result(name) => vec![*name],
-            Row::Bind(bind) => bind.form.uses(),
-        };
-        if uses.into_iter().any(|name| !in_scope(document, row, name)) {
+        if content
+            .uses()
+            .into_iter()
+            .any(|name| !in_scope(document, row, name))
+        {
             return Some((8, row + 2));
         }
     }
@@ -206,8 +206,8 @@ fn in_scope(document: &Document, row: usize, name: usize) -> bool {
         let added = match bind.form {
             _ if bind.rest == row => bind.name == name,
             Form::Fun { own, parameter, .. } => own == name || parameter == name,
-            Form::Case { left, left_row, .. } if left_row == row => left == name,
-            Form::Case { right, .. } => right == name,
+            Form::Case { left, .. } if left.row == row => left.name == name,
+            Form::Case { right, .. } => right.name == name,
             _ => false,
         };
         if added {

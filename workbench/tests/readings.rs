@@ -1,13 +1,27 @@
-//! The readings of open places, items 1 to 22, as far as documents show them.
+//! The readings of open places, items 1 to 22, as far as documents show them: by
+//! the reference, with which the library is compared on every file.
 
-use workbench::reference::check::{judge, load, report, verdict};
-use workbench::reference::document::{
-    Bind, Document, Flow, Form, Row, Set, LAST_NUMBER, MAX_FILE_BYTES,
-};
+use workbench::differential::{compare_file, Tally};
+use workbench::generate::{chain, file_of_length, Random};
+use workbench::reference::check::{self, judge, verdict};
+use workbench::reference::document::{Document, LAST_NUMBER, MAX_FILE_BYTES};
 use workbench::reference::print::print;
 use workbench::reference::refusal::{refusal, Refusal};
 use workbench::reference::steps::{can_share_run, is_walk, part_at_spawn, steps};
 use workbench::reference::structure::scopes;
+
+/// What load answers, after the library was compared on the file.
+fn load(file: &[u8]) -> Result<Document, Refusal> {
+    let compared = compare_file(&mut Random::new(8), file, &mut Tally::default());
+    assert_eq!(compared, Ok(()), "{}", file.escape_ascii());
+    check::load(file)
+}
+
+/// What the program prints, after the library was compared on the file.
+fn report(file: &[u8]) -> String {
+    load(file).ok();
+    check::report(file)
+}
 
 fn refused(file: impl AsRef<[u8]>) -> (u16, usize) {
     let Refusal { number, line } = load(file.as_ref()).expect_err("refused");
@@ -209,20 +223,6 @@ fn item_06_lines_of_an_earlier_kind() {
     assert!(load(chan_with(&[claim]).as_bytes()).is_ok());
     assert!(load(chan_with(&[flow, claim]).as_bytes()).is_ok());
     assert!(load(chan_with(&[comm, claim]).as_bytes()).is_ok());
-}
-
-/// So many rows, all chan but the last.
-fn chain(count: usize) -> Document {
-    let mut document = Document::default();
-    for row in 0..count - 1 {
-        document.rows.push(Row::Bind(Bind {
-            name: row,
-            form: Form::Chan,
-            rest: row + 1,
-        }));
-    }
-    document.rows.push(Row::Result(0));
-    document
 }
 
 #[test]
@@ -448,34 +448,12 @@ fn item_13_what_sets_and_lines_may_name() {
 
 #[test]
 fn item_14_file_length() {
-    // Rows, then wide sets, trimmed to exactly the most bytes.
-    let mut document = chain(LAST_NUMBER + 1);
-    let all = Set {
-        unit: true,
-        rows: (0..LAST_NUMBER).collect(),
-    };
-    for name in 0..LAST_NUMBER {
-        let set = all.clone();
-        document.flows.push(Flow { name, set });
-        if print(&document).len() > MAX_FILE_BYTES {
-            break;
-        }
-    }
-    // Members of three, two and one digits take four, three and two bytes.
-    for row in (0..LAST_NUMBER).rev() {
-        let excess = print(&document).len() - MAX_FILE_BYTES;
-        let digits = row.to_string().len() + 1;
-        if excess == 0 {
-            break;
-        }
-        let last = document.flows.len() - 1;
-        if digits <= excess && excess - digits != 1 {
-            document.flows[last].set.rows.remove(&row);
-        }
-    }
-    let file = print(&document);
+    let file = file_of_length(&mut Random::new(14), MAX_FILE_BYTES);
     assert_eq!(file.len(), MAX_FILE_BYTES);
-    assert_eq!(load(&file).as_ref(), Ok(&document));
+    assert_eq!(
+        load(&file).map(|document| print(&document)),
+        Ok(file.clone())
+    );
     let longer = [&file[..], b"\n"].concat();
     assert_eq!(refused(longer), (1, 0));
     assert_eq!(refused(vec![0; MAX_FILE_BYTES + 1]), (1, 0));

@@ -1,10 +1,11 @@
 //! Soundness by simulation: random schedules of accepted programs.
 //!
-//! After every list of steps, on every instance of a claimed channel the
+//! Where the library's load and judge accept, after every list of steps, on every instance of a claimed channel the
 //! history fits the claimed word; and steps that are not allowed change nothing.
 
 use std::collections::BTreeMap;
 
+use workbench::checker::Store;
 use workbench::generate::{
     accepted_document, claim_truly, least_document, loadable_document, Random, Size, Tables,
 };
@@ -17,6 +18,7 @@ use workbench::reference::run::{
 use workbench::reference::steps::{can_share_run, is_walk, steps};
 use workbench::reference::structure::scopes;
 use workbench::reference::verdict::word_holds;
+use workbench::samples::{A, RELAY, SERVER, UNPACKING};
 
 #[derive(Default, Debug)]
 struct Tally {
@@ -204,6 +206,17 @@ fn check_histories(document: &Document, pool: &Pool, tally: &mut Tally) {
     }
 }
 
+/// The library's load and judge accept the document, and so do the reference's.
+fn accept(document: &Document) {
+    let file = write(document);
+    let claims = document.claims.len();
+    assert_eq!(load(&file).as_ref(), Ok(document));
+    assert_eq!(judge(document), Ok(claims));
+    let mut store = Store::new();
+    store.load(&file).expect("the library's load takes it");
+    assert_eq!(store.judge(), Ok(claims));
+}
+
 fn simulate(seed: u64, documents: usize, size: Size, schedules: usize, moves: usize) -> Tally {
     let mut random = Random::new(seed);
     let mut tally = Tally::default();
@@ -215,9 +228,7 @@ fn simulate(seed: u64, documents: usize, size: Size, schedules: usize, moves: us
         if syncs < 2 || document.claims.is_empty() {
             continue;
         }
-        let file = write(&document);
-        let document = load(&file).expect("load takes it");
-        assert_eq!(judge(&document), Ok(document.claims.len()));
+        accept(&document);
         for _ in 0..schedules {
             let pool = run(&mut random, &document, moves, &mut tally);
             check_pool(&document, &pool);
@@ -262,79 +273,12 @@ fn histories_of_large_programs_fit() {
     assert!(tally.meetings > 1_000);
 }
 
-/// A server that takes reply channels and answers on them, and two clients.
-const SERVER: &str = "\
-[dispenser 1]
-[row 0 [bind 0 [chan] 1]]
-[row 1 [bind 1 [unit] 2]]
-[row 2 [bind 2 [fun 3 4 3] 9]]
-[row 3 [bind 5 [recv 0] 4]]
-[row 4 [bind 6 [sync 5] 5]]
-[row 5 [bind 7 [send 6 4] 6]]
-[row 6 [bind 8 [sync 7] 7]]
-[row 7 [bind 9 [apply 3 4] 8]]
-[row 8 [result 9]]
-[row 9 [bind 10 [fun 11 12 10] 17]]
-[row 10 [bind 13 [chan] 11]]
-[row 11 [bind 14 [send 0 13] 12]]
-[row 12 [bind 15 [sync 14] 13]]
-[row 13 [bind 16 [recv 13] 14]]
-[row 14 [bind 17 [sync 16] 15]]
-[row 15 [bind 18 [pair 17 13] 16]]
-[row 16 [result 18]]
-[row 17 [bind 20 [spawn 18] 20]]
-[row 18 [bind 21 [apply 2 1] 19]]
-[row 19 [result 21]]
-[row 20 [bind 22 [spawn 21] 23]]
-[row 21 [bind 23 [apply 10 1] 22]]
-[row 22 [result 23]]
-[row 23 [bind 24 [apply 10 1] 24]]
-[row 24 [bind 25 [first 24] 25]]
-[row 25 [bind 26 [apply 10 25] 26]]
-[row 26 [result 26]]
-";
-
-/// Two loops, one in each of two threads: left and right values go one way, and
-/// an answer to each left value the other way.
-const RELAY: &str = "\
-[dispenser 1]
-[row 0 [bind 0 [chan] 1]]
-[row 1 [bind 1 [chan] 2]]
-[row 2 [bind 2 [unit] 3]]
-[row 3 [bind 3 [left 2] 4]]
-[row 4 [bind 4 [right 2] 5]]
-[row 5 [bind 5 [fun 6 7 6] 15]]
-[row 6 [bind 8 [recv 0] 7]]
-[row 7 [bind 9 [sync 8] 8]]
-[row 8 [bind 10 [case 9 11 9 12 12] 13]]
-[row 9 [bind 13 [send 1 11] 10]]
-[row 10 [bind 14 [sync 13] 11]]
-[row 11 [result 14]]
-[row 12 [result 12]]
-[row 13 [bind 15 [apply 6 7] 14]]
-[row 14 [result 15]]
-[row 15 [bind 16 [spawn 16] 18]]
-[row 16 [bind 17 [apply 5 2] 17]]
-[row 17 [result 17]]
-[row 18 [bind 18 [fun 19 20 19] 27]]
-[row 19 [bind 21 [send 0 3] 20]]
-[row 20 [bind 22 [sync 21] 21]]
-[row 21 [bind 23 [recv 1] 22]]
-[row 22 [bind 24 [sync 23] 23]]
-[row 23 [bind 25 [send 0 4] 24]]
-[row 24 [bind 26 [sync 25] 25]]
-[row 25 [bind 27 [apply 19 20] 26]]
-[row 26 [result 27]]
-[row 27 [bind 28 [apply 18 2] 28]]
-[row 28 [result 28]]
-";
-
 /// A program with its least tables and claims that hold.
 fn with_least_tables(random: &mut Random, file: &str) -> Document {
     let mut document = load(file.as_bytes()).expect("load takes it");
     Tables::empty().close(&document.rows).put(&mut document);
     claim_truly(random, &mut document);
-    assert_eq!(judge(&document), Ok(document.claims.len()));
+    accept(&document);
     document
 }
 
@@ -450,19 +394,7 @@ fn path(labels: &[(LabelKind, usize)]) -> Path {
 #[test]
 fn listing_a_runs_as_the_rules_say() {
     use LabelKind::{Next, Spawn};
-    let file = "\
-[dispenser 1]
-[row 0 [bind 0 [unit] 1]]
-[row 1 [bind 1 [chan] 2]]
-[row 2 [bind 2 [spawn 3] 6]]
-[row 3 [bind 3 [recv 1] 4]]
-[row 4 [bind 4 [sync 3] 5]]
-[row 5 [result 4]]
-[row 6 [bind 5 [send 1 0] 7]]
-[row 7 [bind 6 [sync 5] 8]]
-[row 8 [result 6]]
-";
-    let document = load(file.as_bytes()).unwrap();
+    let document = load(A.as_bytes()).unwrap();
     let mut pool = Pool::start();
     let own = |labels: &[(LabelKind, usize)]| Step::Own(path(labels));
     assert!(pool.take(&document, &own(&[])));
@@ -528,21 +460,7 @@ fn listing_a_runs_as_the_rules_say() {
 #[test]
 fn calls_and_returns_as_the_rules_say() {
     use LabelKind::{Call, Next, Return};
-    // A function that unpacks a left value and gives back what is in it.
-    let file = "\
-[dispenser 1]
-[row 0 [bind 0 [unit] 1]]
-[row 1 [bind 1 [left 0] 2]]
-[row 2 [bind 2 [fun 3 4 3] 7]]
-[row 3 [bind 5 [case 4 6 4 7 5] 6]]
-[row 4 [result 6]]
-[row 5 [result 7]]
-[row 6 [result 5]]
-[row 7 [bind 8 [apply 2 1] 8]]
-[row 8 [bind 9 [first 8] 9]]
-[row 9 [result 9]]
-";
-    let document = load(file.as_bytes()).unwrap();
+    let document = load(UNPACKING.as_bytes()).unwrap();
     let mut pool = Pool::start();
     let labels = [
         (Next, 0),

@@ -59,11 +59,7 @@ fn steps_by_text(document: &Document, row: usize) -> BTreeSet<usize> {
     };
     match document.bind(row) {
         Some(bind) => match bind.form {
-            Form::Case {
-                left_row,
-                right_row,
-                ..
-            } => targets.extend([left_row, right_row]),
+            Form::Case { left, right, .. } => targets.extend([left.row, right.row]),
             Form::Apply { function, .. } => targets.extend(bodies(function)),
             Form::Spawn { row } => targets.extend([row, bind.rest]),
             _ => targets.extend([bind.rest]),
@@ -72,11 +68,7 @@ fn steps_by_text(document: &Document, row: usize) -> BTreeSet<usize> {
             for other in &document.rows {
                 let Some(bind) = other.bind() else { continue };
                 let entered = match bind.form {
-                    Form::Case {
-                        left_row,
-                        right_row,
-                        ..
-                    } => vec![left_row, right_row],
+                    Form::Case { left, right, .. } => vec![left.row, right.row],
                     Form::Apply { function, .. } => bodies(function),
                     _ => vec![],
                 };

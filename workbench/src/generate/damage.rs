@@ -6,6 +6,7 @@ use super::{
 };
 use crate::reference::document::{Word, LAST_NUMBER};
 use crate::reference::print::print;
+use crate::text::{lines, number_places};
 
 /// A text with one to three edits of bytes, numbers and lines.
 pub fn damage(random: &mut Random, file: &[u8]) -> Vec<u8> {
@@ -55,41 +56,24 @@ pub fn edit_number(random: &mut Random, file: Vec<u8>) -> Vec<u8> {
         "00", "01", "007", "1000", "",
     ];
     let numbers = number_places(&file);
-    let Some(&(start, end)) = random.pick(&numbers) else {
+    let Some(place) = random.pick(&numbers).cloned() else {
         return file;
     };
     let spelling = match random.below(4) {
         0 => {
             // A number from elsewhere in the file.
-            let (start, end) = numbers[random.below(numbers.len())];
-            file[start..end].to_vec()
+            let other = numbers[random.below(numbers.len())].clone();
+            file[other].to_vec()
         }
         1 => random.below(20).to_string().into_bytes(),
         _ => SPELLINGS[random.below(SPELLINGS.len())].as_bytes().to_vec(),
     };
-    [&file[..start], &spelling, &file[end..]].concat()
-}
-
-/// Where the runs of digits are.
-fn number_places(file: &[u8]) -> Vec<(usize, usize)> {
-    let mut places = vec![];
-    let mut at = 0;
-    while at < file.len() {
-        let length = file[at..]
-            .iter()
-            .take_while(|byte| byte.is_ascii_digit())
-            .count();
-        if length > 0 {
-            places.push((at, at + length));
-        }
-        at += length.max(1);
-    }
-    places
+    [&file[..place.start], &spelling, &file[place.end..]].concat()
 }
 
 /// Changes the members of a written set.
 pub fn edit_set(random: &mut Random, file: Vec<u8>) -> Vec<u8> {
-    let mut lines = split_lines(&file);
+    let mut lines: Vec<Vec<u8>> = lines(&file).into_iter().map(<[u8]>::to_vec).collect();
     let sets: Vec<usize> = (0..lines.len())
         .filter(|&line| lines[line].starts_with(b"[flow") || lines[line].starts_with(b"[comm"))
         .collect();
@@ -128,7 +112,7 @@ pub fn edit_set(random: &mut Random, file: Vec<u8>) -> Vec<u8> {
 
 /// Takes out, doubles, moves or puts in a whole line, or part of one.
 pub fn edit_lines(random: &mut Random, file: Vec<u8>) -> Vec<u8> {
-    let mut lines = split_lines(&file);
+    let mut lines: Vec<Vec<u8>> = lines(&file).into_iter().map(<[u8]>::to_vec).collect();
     if lines.is_empty() {
         return b"\n".to_vec();
     }
@@ -219,13 +203,6 @@ fn crafted_line(random: &mut Random) -> Vec<u8> {
         _ => format!("[flow {a} [{b} u]]"),
     };
     format!("{line}\n").into_bytes()
-}
-
-/// The lines with their bytes 10; a last one may lack it.
-fn split_lines(file: &[u8]) -> Vec<Vec<u8>> {
-    file.split_inclusive(|&byte| byte == b'\n')
-        .map(<[u8]>::to_vec)
-        .collect()
 }
 
 /// A damaged file: edits of the text of a loadable document, now and then with

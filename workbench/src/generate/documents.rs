@@ -2,7 +2,7 @@
 
 use super::{narrow, program, widen, Random, Size, Tables};
 use crate::reference::document::{Claim, Document, Word};
-use crate::reference::verdict::{counted_pairs, places, verdict_of, word_holds};
+use crate::reference::verdict::{counted_pairs, places, verdict_of, word_holds, Verdict};
 
 /// A document with the least tables of a random program and no claims.
 pub fn least_document(random: &mut Random, size: Size) -> Document {
@@ -16,12 +16,23 @@ pub fn least_document(random: &mut Random, size: Size) -> Document {
 
 /// The same with tables that keep the flow rules but are wider.
 pub fn wide_document(random: &mut Random, size: Size) -> Document {
+    let count = 1 + random.below(4);
+    widened(random, size, count)
+}
+
+/// The same with tables that keep the flow rules and hold very much.
+pub fn crowded_document(random: &mut Random, size: Size) -> Document {
+    let count = 5 + random.below(4 * size.rows);
+    widened(random, size, count)
+}
+
+/// The least tables that hold so many random members more.
+fn widened(random: &mut Random, size: Size, count: usize) -> Document {
     let mut document = Document {
         rows: program(random, size),
         ..Document::default()
     };
     let mut tables = Tables::empty();
-    let count = 1 + random.below(4);
     widen(random, &document.rows, &mut tables, count);
     tables.close(&document.rows).put(&mut document);
     document
@@ -62,42 +73,40 @@ pub fn contested(
     document
 }
 
-/// Claims that hold, on most chan rows.
-pub fn claim_truly(random: &mut Random, document: &mut Document) {
+/// Puts a claim on each chan row for which a word is chosen by its verdict.
+fn claim_by_verdict(document: &mut Document, mut choose: impl FnMut(Verdict) -> Option<Word>) {
     let pairs = counted_pairs(document);
     let mut claims = vec![];
     for channel in document.chan_rows() {
         let verdict = verdict_of(&pairs, &places(document, channel));
+        claims.extend(choose(verdict).map(|word| Claim { channel, word }));
+    }
+    document.claims = claims;
+}
+
+/// Claims that hold, on most chan rows.
+pub fn claim_truly(random: &mut Random, document: &mut Document) {
+    claim_by_verdict(document, |verdict| {
         let mut words = Word::ALL.to_vec();
         words.retain(|&word| word_holds(word, verdict));
         // `many` says nothing: drawn only now and then where another holds.
         if words.len() > 1 && random.chance(5, 6) {
             words.retain(|&word| word != Word::Many);
         }
-        if let Some(&word) = random.pick(&words) {
-            if random.chance(7, 8) {
-                claims.push(Claim { channel, word });
-            }
-        }
-    }
-    document.claims = claims;
+        let word = random.pick(&words).copied();
+        word.filter(|_| random.chance(7, 8))
+    });
 }
 
 /// Claims of which some do not hold, where any can fail.
 pub fn claim_falsely(random: &mut Random, document: &mut Document) {
-    let pairs = counted_pairs(document);
-    let mut claims = vec![];
-    for channel in document.chan_rows() {
-        let verdict = verdict_of(&pairs, &places(document, channel));
+    claim_by_verdict(document, |verdict| {
         let mut words = Word::ALL.to_vec();
         if random.chance(2, 3) && verdict != [true; 4] {
             words.retain(|&word| !word_holds(word, verdict));
         }
-        if let Some(&word) = random.pick(&words) {
-            claims.push(Claim { channel, word });
-        }
-    }
-    document.claims = claims;
+        random.pick(&words).copied()
+    });
 }
 
 /// Any claims, on some chan rows.

@@ -4,9 +4,8 @@
 use std::mem::discriminant;
 use std::rc::Rc;
 
-use super::structure::pointers_mut;
 use super::{Random, Size};
-use crate::reference::document::{Bind, Form, Name, Row, LAST_NUMBER};
+use crate::reference::document::{Bind, Branch, Form, Name, Part, Row, LAST_NUMBER};
 
 /// What a name probably has. It only steers the choice of names; sets and
 /// verdicts never rest on it.
@@ -156,7 +155,7 @@ fn renumber(random: &mut Random, rows: Vec<Row>, order: Order) -> Vec<Row> {
         sorted.push(rows[row].clone());
     }
     for row in &mut sorted {
-        for pointer in pointers_mut(row) {
+        for pointer in row.of_kind_mut(Part::Pointer) {
             *pointer = numbers[*pointer];
         }
     }
@@ -173,7 +172,8 @@ impl Writer<'_> {
         let open = self.open.remove(index);
         let number = self.rows.len();
         if let Some((row, pointer)) = open.pointer {
-            if let Some(target) = pointers_mut(&mut self.rows[row]).into_iter().nth(pointer) {
+            let pointers = self.rows[row].of_kind_mut(Part::Pointer);
+            if let Some(target) = pointers.into_iter().nth(pointer) {
                 *target = number;
             }
         }
@@ -429,10 +429,11 @@ impl Writer<'_> {
                 }
                 let form = Form::Case {
                     subject,
-                    left,
-                    left_row: 0,
-                    right,
-                    right_row: 0,
+                    left: Branch { name: left, row: 0 },
+                    right: Branch {
+                        name: right,
+                        row: 0,
+                    },
                 };
                 (form, Kind::Unknown)
             }

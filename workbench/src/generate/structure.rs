@@ -2,61 +2,8 @@
 
 use super::tables::bound_names;
 use super::{accepted_document, loadable_document, Random, Size};
-use crate::reference::document::{
-    Claim, Comm, Document, Flow, Form, Name, Row, Set, Word, LAST_NUMBER,
-};
+use crate::reference::document::{Claim, Comm, Document, Flow, Part, Set, Word, LAST_NUMBER};
 use crate::reference::print::print;
-
-/// The pointers of a row, left to right.
-pub fn pointers_mut(row: &mut Row) -> Vec<&mut usize> {
-    let Row::Bind(bind) = row else {
-        return vec![];
-    };
-    let mut pointers = match &mut bind.form {
-        Form::Fun { body, .. } => vec![body],
-        Form::Spawn { row } => vec![row],
-        Form::Case {
-            left_row,
-            right_row,
-            ..
-        } => vec![left_row, right_row],
-        _ => vec![],
-    };
-    pointers.push(&mut bind.rest);
-    pointers
-}
-
-/// The binders of a row, left to right.
-pub fn binders_mut(row: &mut Row) -> Vec<&mut Name> {
-    let Row::Bind(bind) = row else {
-        return vec![];
-    };
-    let mut binders = vec![&mut bind.name];
-    match &mut bind.form {
-        Form::Fun { own, parameter, .. } => binders.extend([own, parameter]),
-        Form::Case { left, right, .. } => binders.extend([left, right]),
-        _ => {}
-    }
-    binders
-}
-
-/// The uses of a row, left to right.
-pub fn uses_mut(row: &mut Row) -> Vec<&mut Name> {
-    match row {
-        Row::Result(name) => vec![name],
-        Row::Bind(bind) => match &mut bind.form {
-            Form::Unit | Form::Chan | Form::Fun { .. } | Form::Spawn { .. } => vec![],
-            Form::Send { channel, message } => vec![channel, message],
-            Form::Recv { channel } => vec![channel],
-            Form::Pair { first, second } => vec![first, second],
-            Form::Left { inner } | Form::Right { inner } => vec![inner],
-            Form::Sync { event } => vec![event],
-            Form::First { pair } | Form::Second { pair } => vec![pair],
-            Form::Case { subject, .. } => vec![subject],
-            Form::Apply { function, argument } => vec![function, argument],
-        },
-    }
-}
 
 /// Puts one fault of refusals 6 to 9 into a document, or nearly one.
 pub fn break_structure(random: &mut Random, document: &mut Document) {
@@ -70,20 +17,25 @@ pub fn break_structure(random: &mut Random, document: &mut Document) {
                 2 => [0, 159, count + 1][random.below(3)],
                 _ => random.below(count),
             };
-            replace_one(random, pointers_mut(&mut document.rows[row]), target);
+            replace_one(
+                random,
+                document.rows[row].of_kind_mut(Part::Pointer),
+                target,
+            );
         }
         2 => {
             // Two pointers exchanged: everything is still pointed at once.
             let other = random.below(count);
-            let (one, two) = (pointers(document, row), pointers(document, other));
+            let pointers = |row: usize| document.rows[row].pointers();
+            let (one, two) = (pointers(row), pointers(other));
             if let (Some(&one), Some(&two)) = (random.pick(&one), random.pick(&two)) {
-                for pointer in pointers_mut(&mut document.rows[row]) {
+                for pointer in document.rows[row].of_kind_mut(Part::Pointer) {
                     if *pointer == one {
                         *pointer = two;
                     }
                 }
                 if row != other {
-                    for pointer in pointers_mut(&mut document.rows[other]) {
+                    for pointer in document.rows[other].of_kind_mut(Part::Pointer) {
                         if *pointer == two {
                             *pointer = one;
                         }
@@ -94,7 +46,7 @@ pub fn break_structure(random: &mut Random, document: &mut Document) {
         3 | 4 => {
             let names = bound_names(&document.rows);
             let name = random.pick(&names).copied().unwrap_or(0);
-            replace_one(random, binders_mut(&mut document.rows[row]), name);
+            replace_one(random, document.rows[row].of_kind_mut(Part::Binder), name);
         }
         5 | 6 => {
             let names = bound_names(&document.rows);
@@ -102,7 +54,7 @@ pub fn break_structure(random: &mut Random, document: &mut Document) {
                 Some(&name) if random.chance(5, 6) => name,
                 _ => random.below(20),
             };
-            replace_one(random, uses_mut(&mut document.rows[row]), name);
+            replace_one(random, document.rows[row].of_kind_mut(Part::Use), name);
         }
         7 => {
             let any = any_row(random, count);
@@ -140,10 +92,6 @@ pub fn break_structure(random: &mut Random, document: &mut Document) {
             }
         }
     }
-}
-
-fn pointers(document: &Document, row: usize) -> Vec<usize> {
-    document.rows[row].pointers()
 }
 
 fn any_row(random: &mut Random, count: usize) -> usize {

@@ -81,21 +81,14 @@ impl Tables {
             Form::Case {
                 subject,
                 left,
-                left_row,
                 right,
-                right_row,
             } => {
                 for member in self.values[subject].rows.clone() {
-                    match form_at(member) {
-                        Some(Form::Left { inner }) => {
-                            grown |= self.feed(inner, left);
-                            grown |= self.feed(last_name(rows, left_row), name);
-                        }
-                        Some(Form::Right { inner }) => {
-                            grown |= self.feed(inner, right);
-                            grown |= self.feed(last_name(rows, right_row), name);
-                        }
-                        _ => {}
+                    let form = form_at(member);
+                    let taken = form.and_then(|form| form.branch_taken(left, right));
+                    if let Some((branch, inner)) = taken {
+                        grown |= self.feed(inner, branch.name);
+                        grown |= self.feed(last_name(rows, branch.row), name);
                     }
                 }
             }

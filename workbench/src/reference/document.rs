@@ -34,6 +34,21 @@ pub struct Bind {
     pub rest: usize,
 }
 
+/// A branch of a case: the name of what it receives, and its row.
+#[derive(Clone, Copy, Debug, PartialEq, Eq)]
+pub struct Branch {
+    pub name: Name,
+    pub row: usize,
+}
+
+/// What a number in a row is: a name used, a name bound or a row pointed at.
+#[derive(Clone, Copy, Debug, PartialEq, Eq)]
+pub enum Part {
+    Use,
+    Binder,
+    Pointer,
+}
+
 /// The fourteen forms.
 #[derive(Clone, Debug, PartialEq, Eq)]
 pub enum Form {
@@ -75,10 +90,8 @@ pub enum Form {
     },
     Case {
         subject: Name,
-        left: Name,
-        left_row: usize,
-        right: Name,
-        right_row: usize,
+        left: Branch,
+        right: Branch,
     },
     Apply {
         function: Name,
@@ -87,35 +100,64 @@ pub enum Form {
 }
 
 impl Form {
-    /// The names used, left to right.
-    pub fn uses(&self) -> Vec<Name> {
-        match *self {
-            Form::Unit | Form::Chan | Form::Fun { .. } | Form::Spawn { .. } => vec![],
-            Form::Send { channel, message } => vec![channel, message],
-            Form::Recv { channel } => vec![channel],
-            Form::Pair { first, second } => vec![first, second],
-            Form::Left { inner } | Form::Right { inner } => vec![inner],
-            Form::Sync { event } => vec![event],
-            Form::First { pair } | Form::Second { pair } => vec![pair],
-            Form::Case { subject, .. } => vec![subject],
-            Form::Apply { function, argument } => vec![function, argument],
+    /// The word that the form begins with.
+    pub fn word(&self) -> &'static str {
+        match self {
+            Form::Unit => "unit",
+            Form::Chan => "chan",
+            Form::Send { .. } => "send",
+            Form::Recv { .. } => "recv",
+            Form::Pair { .. } => "pair",
+            Form::Left { .. } => "left",
+            Form::Right { .. } => "right",
+            Form::Fun { .. } => "fun",
+            Form::Spawn { .. } => "spawn",
+            Form::Sync { .. } => "sync",
+            Form::First { .. } => "first",
+            Form::Second { .. } => "second",
+            Form::Case { .. } => "case",
+            Form::Apply { .. } => "apply",
         }
     }
 
-    /// The names bound, left to right.
-    pub fn binders(&self) -> Vec<Name> {
-        match *self {
-            Form::Fun { own, parameter, .. } => vec![own, parameter],
-            Form::Case { left, right, .. } => vec![left, right],
-            _ => vec![],
+    /// The numbers as they are written, left to right, each with what it is.
+    pub fn parts_mut(&mut self) -> Vec<(Part, &mut usize)> {
+        use Part::{Binder, Pointer, Use};
+        match self {
+            Form::Unit | Form::Chan => vec![],
+            Form::Send { channel, message } => vec![(Use, channel), (Use, message)],
+            Form::Recv { channel } => vec![(Use, channel)],
+            Form::Pair { first, second } => vec![(Use, first), (Use, second)],
+            Form::Left { inner } | Form::Right { inner } => vec![(Use, inner)],
+            Form::Fun {
+                own,
+                parameter,
+                body,
+            } => vec![(Binder, own), (Binder, parameter), (Pointer, body)],
+            Form::Spawn { row } => vec![(Pointer, row)],
+            Form::Sync { event } => vec![(Use, event)],
+            Form::First { pair } | Form::Second { pair } => vec![(Use, pair)],
+            Form::Case {
+                subject,
+                left,
+                right,
+            } => vec![
+                (Use, subject),
+                (Binder, &mut left.name),
+                (Pointer, &mut left.row),
+                (Binder, &mut right.name),
+                (Pointer, &mut right.row),
+            ],
+            Form::Apply { function, argument } => vec![(Use, function), (Use, argument)],
         }
     }
 
-    /// The rows inside, left to right.
-    pub fn rows(&self) -> Vec<usize> {
-        self.rows_with_binders()
-            .into_iter()
-            .map(|(row, _)| row)
+    /// The numbers as they are written, left to right.
+    pub fn numbers(&self) -> Vec<usize> {
+        let mut form = self.clone();
+        form.parts_mut()
+            .iter()
+            .map(|(_, number)| **number)
             .collect()
     }
 
@@ -130,14 +172,20 @@ impl Form {
                 body,
             } => vec![(body, vec![own, parameter])],
             Form::Spawn { row } => vec![(row, vec![])],
-            Form::Case {
-                left,
-                left_row,
-                right,
-                right_row,
-                ..
-            } => vec![(left_row, vec![left]), (right_row, vec![right])],
+            Form::Case { left, right, .. } => {
+                vec![(left.row, vec![left.name]), (right.row, vec![right.name])]
+            }
             _ => vec![],
+        }
+    }
+
+    /// The branch that a left or right value takes in a case, and the name of
+    /// what the value holds; none for other forms.
+    pub fn branch_taken(&self, left: Branch, right: Branch) -> Option<(Branch, Name)> {
+        match self {
+            Form::Left { inner } => Some((left, *inner)),
+            Form::Right { inner } => Some((right, *inner)),
+            _ => None,
         }
     }
 
@@ -165,28 +213,49 @@ impl Row {
         }
     }
 
+    /// The numbers as they are written, left to right, each with what it is.
+    pub fn parts_mut(&mut self) -> Vec<(Part, &mut usize)> {
+        match self {
+            Row::Result(name) => vec![(Part::Use, name)],
+            Row::Bind(bind) => {
+                let mut parts = vec![(Part::Binder, &mut bind.name)];
+                parts.extend(bind.form.parts_mut());
+                parts.push((Part::Pointer, &mut bind.rest));
+                parts
+            }
+        }
+    }
+
+    /// The numbers that are of one kind, left to right.
+    pub fn of_kind_mut(&mut self, kind: Part) -> Vec<&mut usize> {
+        let parts = self.parts_mut().into_iter();
+        parts
+            .filter(|(part, _)| *part == kind)
+            .map(|(_, number)| number)
+            .collect()
+    }
+
+    fn of_kind(&self, kind: Part) -> Vec<usize> {
+        let mut row = self.clone();
+        row.of_kind_mut(kind)
+            .iter()
+            .map(|number| **number)
+            .collect()
+    }
+
     /// The names used, left to right.
     pub fn uses(&self) -> Vec<Name> {
-        match self {
-            Row::Result(name) => vec![*name],
-            Row::Bind(bind) => bind.form.uses(),
-        }
+        self.of_kind(Part::Use)
     }
 
     /// The names bound, left to right: N, then those of the form.
     pub fn binders(&self) -> Vec<Name> {
-        match self {
-            Row::Result(_) => vec![],
-            Row::Bind(bind) => [vec![bind.name], bind.form.binders()].concat(),
-        }
+        self.of_kind(Part::Binder)
     }
 
     /// The rows pointed at, left to right: those of the form, then the rest.
     pub fn pointers(&self) -> Vec<usize> {
-        match self {
-            Row::Result(_) => vec![],
-            Row::Bind(bind) => [bind.form.rows(), vec![bind.rest]].concat(),
-        }
+        self.of_kind(Part::Pointer)
     }
 }
 

@@ -48,17 +48,12 @@ pub fn rule_holds(document: &Document, row: usize) -> bool {
         Form::Case {
             subject,
             left,
-            left_row,
             right,
-            right_row,
-        } => forms(values(subject)).iter().all(|form| match form {
-            Form::Left { inner } => {
-                values(*inner).lies_in(values(left)) && result_lies_in_bound(left_row)
-            }
-            Form::Right { inner } => {
-                values(*inner).lies_in(values(right)) && result_lies_in_bound(right_row)
-            }
-            _ => true,
+        } => forms(values(subject)).iter().all(|form| {
+            let Some((branch, inner)) = form.branch_taken(left, right) else {
+                return true;
+            };
+            values(inner).lies_in(values(branch.name)) && result_lies_in_bound(branch.row)
         }),
         Form::Apply { function, argument } => {
             forms(values(function)).iter().all(|form| match form {

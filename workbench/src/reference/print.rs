@@ -39,35 +39,13 @@ fn row_text(row: &Row) -> String {
 }
 
 fn form_text(form: &Form) -> String {
-    match form {
-        Form::Unit => "[unit]".to_string(),
-        Form::Chan => "[chan]".to_string(),
-        Form::Send { channel, message } => format!("[send {channel} {message}]"),
-        Form::Recv { channel } => format!("[recv {channel}]"),
-        Form::Pair { first, second } => format!("[pair {first} {second}]"),
-        Form::Left { inner } => format!("[left {inner}]"),
-        Form::Right { inner } => format!("[right {inner}]"),
-        Form::Fun {
-            own,
-            parameter,
-            body,
-        } => format!("[fun {own} {parameter} {body}]"),
-        Form::Spawn { row } => format!("[spawn {row}]"),
-        Form::Sync { event } => format!("[sync {event}]"),
-        Form::First { pair } => format!("[first {pair}]"),
-        Form::Second { pair } => format!("[second {pair}]"),
-        Form::Case {
-            subject,
-            left,
-            left_row,
-            right,
-            right_row,
-        } => format!("[case {subject} {left} {left_row} {right} {right_row}]"),
-        Form::Apply { function, argument } => format!("[apply {function} {argument}]"),
-    }
+    let numbers = form.numbers().into_iter();
+    let numbers: String = numbers.map(|number| format!(" {number}")).collect();
+    format!("[{}{numbers}]", form.word())
 }
 
-fn set_text(set: &Set) -> String {
+/// The text of a set.
+pub fn set_text(set: &Set) -> String {
     let unit = set.unit.then(|| "u".to_string());
     let rows = set.rows.iter().map(usize::to_string);
     let parts: Vec<String> = unit.into_iter().chain(rows).collect();

@@ -5,7 +5,7 @@
 //! load (2 before 3 before 4 before 5)".
 
 use super::document::{
-    Bind, Claim, Comm, Document, Flow, Form, Row, Set, Word, LAST_NUMBER, MAX_FILE_BYTES,
+    Bind, Branch, Claim, Comm, Document, Flow, Form, Row, Set, Word, LAST_NUMBER, MAX_FILE_BYTES,
 };
 use super::print::HEADER;
 use super::refusal::{
@@ -245,10 +245,8 @@ impl<'a> Cursor<'a> {
             b"second" => Form::Second { pair: self.part()? },
             b"case" => Form::Case {
                 subject: self.part()?,
-                left: self.part()?,
-                left_row: self.part()?,
-                right: self.part()?,
-                right_row: self.part()?,
+                left: self.branch()?,
+                right: self.branch()?,
             },
             b"apply" => Form::Apply {
                 function: self.part()?,
@@ -258,6 +256,12 @@ impl<'a> Cursor<'a> {
         };
         self.literal("]")?;
         Some(form)
+    }
+
+    fn branch(&mut self) -> Option<Branch> {
+        let name = self.part()?;
+        let row = self.part()?;
+        Some(Branch { name, row })
     }
 
     /// "`u` (unit) first if at all, then rising row numbers, one space between;

@@ -241,19 +241,13 @@ fn own_step(document: &Document, path: &Path, state: &State) -> Option<Vec<(Path
         Form::Case {
             subject,
             left,
-            left_row,
             right,
-            right_row,
         } => {
             let (form, inside) = form_of(document, value_of(subject)?)?;
-            let (name, inner, row) = match form {
-                Form::Left { inner } => (left, inner, left_row),
-                Form::Right { inner } => (right, inner, right_row),
-                _ => return None,
-            };
-            let value = inside.get(inner)?.clone();
-            let environment = with(&state.environment, [(*name, value)]);
-            Some(vec![call(path, state, bind, *row, environment)])
+            let (branch, inner) = form.branch_taken(*left, *right)?;
+            let value = inside.get(&inner)?.clone();
+            let environment = with(&state.environment, [(branch.name, value)]);
+            Some(vec![call(path, state, bind, branch.row, environment)])
         }
         Form::Apply { function, argument } => {
             let called = value_of(function)?;

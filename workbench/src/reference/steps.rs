@@ -27,16 +27,12 @@ pub fn steps(document: &Document) -> Steps {
             continue;
         };
         match bind.form {
-            Form::Case {
-                left_row,
-                right_row,
-                ..
-            } => {
+            Form::Case { left, right, .. } => {
                 for branch in branches_entered(document, &bind.form) {
                     add(Some(row), branch);
                 }
-                add(document.result_row(left_row), bind.rest);
-                add(document.result_row(right_row), bind.rest);
+                add(document.result_row(left.row), bind.rest);
+                add(document.result_row(right.row), bind.rest);
             }
             Form::Apply { function, .. } => {
                 for body in bodies(document, function) {
@@ -57,11 +53,7 @@ pub fn steps(document: &Document) -> Steps {
 /// The case-step rule: "A case steps to both branches".
 fn branches_entered(_document: &Document, form: &Form) -> Vec<usize> {
     match *form {
-        Form::Case {
-            left_row,
-            right_row,
-            ..
-        } => vec![left_row, right_row],
+        Form::Case { left, right, .. } => vec![left.row, right.row],
         _ => vec![],
     }
 }

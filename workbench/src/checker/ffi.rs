@@ -1,0 +1,51 @@
+//! The C functions, each as a function on slices that gives the answer as it
+//! comes: one number of 64 bits.
+
+use std::os::raw::c_uchar;
+
+extern "C" {
+    fn dispenser_store_size() -> u64;
+    fn dispenser_load(
+        file: *const c_uchar,
+        file_len: usize,
+        store: *mut c_uchar,
+        store_len: usize,
+    ) -> u64;
+    fn dispenser_judge(store: *const c_uchar, store_len: usize) -> u64;
+    fn dispenser_verdict(store: *const c_uchar, store_len: usize, channel: usize) -> u64;
+    fn dispenser_write(
+        store: *const c_uchar,
+        store_len: usize,
+        out: *mut c_uchar,
+        out_len: usize,
+    ) -> u64;
+}
+
+// SAFETY, of all five: pointer and length come from one slice, which stays
+// borrowed for the call, mutably where the function writes; the functions touch
+// no other memory and keep no pointer (promise 1).
+
+/// The store's fixed size.
+pub fn store_size() -> u64 {
+    unsafe { dispenser_store_size() }
+}
+
+/// Loads a file into a store.
+pub fn load(file: &[u8], store: &mut [u8]) -> u64 {
+    unsafe { dispenser_load(file.as_ptr(), file.len(), store.as_mut_ptr(), store.len()) }
+}
+
+/// Judges a store.
+pub fn judge(store: &[u8]) -> u64 {
+    unsafe { dispenser_judge(store.as_ptr(), store.len()) }
+}
+
+/// The verdict on a number.
+pub fn verdict(store: &[u8], channel: usize) -> u64 {
+    unsafe { dispenser_verdict(store.as_ptr(), store.len(), channel) }
+}
+
+/// Writes the text of a store.
+pub fn write(store: &[u8], out: &mut [u8]) -> u64 {
+    unsafe { dispenser_write(store.as_ptr(), store.len(), out.as_mut_ptr(), out.len()) }
+}

@@ -1,0 +1,85 @@
+//! Why a file is refused, told by the reference: the place in the line, and the
+//! reason in sentences.
+
+mod flow;
+mod shape;
+mod structure;
+mod walks;
+
+pub use flow::{demands, Demand, Table};
+pub use walks::breaking_walks;
+
+use std::ops::Range;
+
+use crate::reference::check;
+use crate::reference::document::{Document, MAX_FILE_BYTES};
+use crate::reference::read::read;
+use crate::reference::refusal::{
+    Refusal, BOUND_EARLIER, CLAIM, FLOW_RULE, MISNAMED, OUT_OF_SCOPE, POINTER, TOO_LONG,
+};
+
+/// Why a file is refused.
+#[derive(Clone, Debug, Default, PartialEq, Eq)]
+pub struct Explanation {
+    /// The bytes of the line that are at fault.
+    pub mark: Option<Range<usize>>,
+    /// The reason, a sentence or a row of a walk to a line.
+    pub why: Vec<String>,
+    /// Two walks that break the claim.
+    pub walks: Option<[Vec<usize>; 2]>,
+}
+
+impl Explanation {
+    fn new(mark: Option<Range<usize>>, why: Vec<String>) -> Explanation {
+        let walks = None;
+        Explanation { mark, why, walks }
+    }
+
+    /// One sentence and one place.
+    fn at(mark: Range<usize>, why: String) -> Explanation {
+        Explanation::new(Some(mark), vec![why])
+    }
+}
+
+/// Why a file is refused as told; none if the reference answers otherwise.
+pub fn explain(file: &[u8], refused: Refusal) -> Option<Explanation> {
+    let outcome = check::load(file).and_then(|document| check::judge(&document));
+    if outcome != Err(refused) {
+        return None;
+    }
+    let at = |explanation: fn(&Document, usize) -> Option<Explanation>| {
+        explanation(&read(file).ok()?, refused.line)
+    };
+    match refused.number {
+        TOO_LONG => {
+            let why = format!("A file has at most {MAX_FILE_BYTES} bytes; this one has more.");
+            Some(Explanation::new(None, vec![why]))
+        }
+        POINTER => at(structure::pointer),
+        BOUND_EARLIER => at(structure::binder),
+        OUT_OF_SCOPE => at(structure::scope),
+        MISNAMED => at(structure::naming),
+        FLOW_RULE => at(flow::rule),
+        CLAIM => at(walks::claim),
+        number => shape::line(file, number, refused.line),
+    }
+}
+
+/// A list in words: `a`, `a or b`, `a, b or c`.
+fn one_of(items: &[String]) -> String {
+    match items {
+        [] => String::new(),
+        [item] => item.clone(),
+        [items @ .., last] => format!("{} or {last}", items.join(", ")),
+    }
+}
+
+/// A list of numbers in words, with an article: `row 3`, `rows 3, 4 and 5`.
+fn all_rows(rows: &[usize]) -> String {
+    let texts: Vec<String> = rows.iter().map(usize::to_string).collect();
+    match texts.as_slice() {
+        [] => "no row".to_string(),
+        [row] => format!("row {row}"),
+        [rows @ .., last] => format!("rows {} and {last}", rows.join(", ")),
+    }
+}

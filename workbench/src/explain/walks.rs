@@ -1,0 +1,162 @@
+//! Refusal 11: two walks that can share a run and break the claim.
+
+use std::collections::{BTreeSet, VecDeque};
+
+use super::Explanation;
+use crate::reference::document::{Document, Form, Word};
+use crate::reference::print::print;
+use crate::reference::steps::{begins, steps, Steps};
+use crate::reference::verdict::{places, Places};
+use crate::text::lines;
+
+/// From some rows, the way to each row reached: the row before it, if any.
+struct Ways {
+    before: Vec<Option<Option<usize>>>,
+    /// The rows reached, the nearest first.
+    reached: Vec<usize>,
+}
+
+fn ways(steps: &Steps, starts: impl IntoIterator<Item = usize>) -> Ways {
+    let mut before = vec![None; steps.len()];
+    let mut reached = vec![];
+    let mut waiting: VecDeque<(Option<usize>, usize)> =
+        starts.into_iter().map(|start| (None, start)).collect();
+    while let Some((from, row)) = waiting.pop_front() {
+        if before[row].is_none() {
+            before[row] = Some(from);
+            reached.push(row);
+            waiting.extend(steps[row].iter().map(|&next| (Some(row), next)));
+        }
+    }
+    Ways { before, reached }
+}
+
+impl Ways {
+    /// The shortest way to the nearest of some rows.
+    fn to_nearest(&self, rows: &BTreeSet<usize>) -> Option<Vec<usize>> {
+        let nearest = self.reached.iter().find(|row| rows.contains(row))?;
+        Some(self.to(*nearest))
+    }
+
+    fn to(&self, row: usize) -> Vec<usize> {
+        let mut way = vec![row];
+        let mut at = row;
+        while let Some(Some(before)) = self.before[at] {
+            way.push(before);
+            at = before;
+        }
+        way.reverse();
+        way
+    }
+}
+
+/// Two walks that can share a run, end at places of the channel row and break
+/// the word; none if the word holds.
+pub fn breaking_walks(document: &Document, channel: usize, word: Word) -> Option<[Vec<usize>; 2]> {
+    let Places { sends, receives } = places(document, channel);
+    match word {
+        Word::OneShot => parted(document, &sends).or_else(|| nested(document, &sends)),
+        Word::OneToOne => parted(document, &sends).or_else(|| parted(document, &receives)),
+        Word::FanOut => parted(document, &sends),
+        Word::FanIn => parted(document, &receives),
+        Word::Many => None,
+    }
+}
+
+/// Two walks that part at a spawn row and end at some of the rows, the shortest.
+fn parted(document: &Document, rows: &BTreeSet<usize>) -> Option<[Vec<usize>; 2]> {
+    let steps = steps(document);
+    let from_start = ways(&steps, [0]);
+    let mut pairs = vec![];
+    for &row in &from_start.reached {
+        let (Some(bind), Some(Form::Spawn { row: spawned })) =
+            (document.bind(row), document.form(row))
+        else {
+            continue;
+        };
+        let spawned = ways(&steps, [*spawned]).to_nearest(rows);
+        let rest = ways(&steps, [bind.rest]).to_nearest(rows);
+        if let (Some(spawned), Some(rest)) = (spawned, rest) {
+            let way = from_start.to(row);
+            pairs.push([[&way[..], &spawned].concat(), [&way[..], &rest].concat()]);
+        }
+    }
+    pairs
+        .into_iter()
+        .min_by_key(|[one, other]| one.len() + other.len())
+}
+
+/// Two walks of which one properly begins the other, both ending at some of the
+/// rows, the shortest.
+fn nested(document: &Document, rows: &BTreeSet<usize>) -> Option<[Vec<usize>; 2]> {
+    let steps = steps(document);
+    let from_start = ways(&steps, [0]);
+    let mut pairs = vec![];
+    for &row in from_start.reached.iter().filter(|row| rows.contains(row)) {
+        if let Some(on) = ways(&steps, steps[row].iter().copied()).to_nearest(rows) {
+            let way = from_start.to(row);
+            pairs.push([way.clone(), [way, on].concat()]);
+        }
+    }
+    pairs.into_iter().min_by_key(|[_, longer]| longer.len())
+}
+
+/// 11: two walks that break the claim, row by row.
+pub fn claim(document: &Document, line: usize) -> Option<Explanation> {
+    let index = line.checked_sub(document.claim_line(0))?;
+    let claim = document.claims.get(index)?;
+    let walks = breaking_walks(document, claim.channel, claim.word)?;
+    let text = print(document);
+    let lines = lines(&text);
+    let row_text = |&row: &usize| {
+        let text = lines[document.row_line(row) - 1].trim_ascii_end();
+        format!("    {}", text.escape_ascii())
+    };
+    let [one, other] = &walks;
+    let shared = one.iter().zip(other).take_while(|(a, b)| a == b).count();
+    let last = |walk: &[usize]| walk[walk.len() - 1];
+    let (end, other_end) = (last(one), last(other));
+    let sends = places(document, claim.channel).sends;
+    let act = if sends.contains(&end) && sends.contains(&other_end) && claim.word != Word::FanIn {
+        "send"
+    } else {
+        "receive"
+    };
+    let meaning = match claim.word {
+        Word::OneShot => "at most one send",
+        _ => "no two threads that do so",
+    };
+    let (word, channel) = (claim.word.text(), claim.channel);
+    let ends = if end == other_end {
+        format!("row {end} twice")
+    } else {
+        format!("row {end} and at row {other_end}")
+    };
+    let mut why = vec![
+        format!(
+            "By the tables one run may {act} on channel row {channel} at {ends}; \
+             {word} allows {meaning}."
+        ),
+        "Both walks begin:".to_string(),
+    ];
+    why.extend(one[..shared].iter().map(row_text));
+    if begins(one, other) {
+        why.push(format!(
+            "There the first walk ends, at row {end}. The second goes on:"
+        ));
+        why.extend(other[shared..].iter().map(row_text));
+    } else {
+        let spawn = one[shared - 1];
+        why.push(format!("Row {spawn} spawns. The new thread goes on:"));
+        why.extend(one[shared..].iter().map(row_text));
+        why.push("The thread that spawned it goes on:".to_string());
+        why.extend(other[shared..].iter().map(row_text));
+    }
+    let claim_text = lines[line - 1].trim_ascii_end();
+    let mark = claim_text.len() - 1 - word.len()..claim_text.len() - 1;
+    Some(Explanation {
+        mark: Some(mark),
+        why,
+        walks: Some(walks),
+    })
+}

@@ -1,0 +1,7 @@
+//! The tool for people: `workbench check FILE..`.
+
+use std::process::ExitCode;
+
+fn main() -> ExitCode {
+    workbench::tool::main()
+}

@@ -1,0 +1,86 @@
+//! Outcomes as JSON, an object to a line for each file.
+
+use super::outcome::{Channel, Outcome};
+use crate::reference::document::Word;
+
+/// The outcome of one file.
+pub fn line(file: &str, outcome: &Outcome) -> String {
+    let mut fields = vec![("file", string(file))];
+    match outcome {
+        Outcome::Accepted { claims, channels } => {
+            fields.push(("accepted", "true".to_string()));
+            fields.push(("claims", claims.to_string()));
+            fields.push(("channels", array(channels.iter().map(channel))));
+        }
+        Outcome::Refused {
+            refusal,
+            line,
+            explanation,
+        } => {
+            fields.push(("accepted", "false".to_string()));
+            fields.push(("number", refusal.reason.number().to_string()));
+            fields.push(("line", refusal.line.to_string()));
+            fields.push(("reason", string(&refusal.reason.to_string())));
+            if refusal.line > 0 {
+                fields.push(("text", string(&line.escape_ascii().to_string())));
+            }
+            if let Some(explanation) = explanation {
+                if let Some(mark) = &explanation.mark {
+                    let columns = [mark.start + 1, mark.end];
+                    fields.push(("columns", array(columns.iter().map(usize::to_string))));
+                }
+                let why = explanation.why.iter();
+                fields.push(("why", array(why.map(|sentence| string(sentence.trim())))));
+                if let Some(walks) = &explanation.walks {
+                    let walk = |walk: &Vec<usize>| array(walk.iter().map(usize::to_string));
+                    fields.push(("walks", array(walks.iter().map(walk))));
+                }
+            }
+        }
+        Outcome::Unreadable(message) => fields.push(("error", string(message))),
+    }
+    object(fields) + "\n"
+}
+
+fn channel(channel: &Channel) -> String {
+    let null = || "null".to_string();
+    let words = Word::ALL.iter().zip(channel.verdict);
+    let verdict = words.map(|(word, holds)| (word.text(), holds.to_string()));
+    object(vec![
+        ("row", channel.row.to_string()),
+        (
+            "name",
+            channel.name.map_or_else(null, |name| name.to_string()),
+        ),
+        (
+            "claim",
+            channel.claim.map_or_else(null, |word| string(word.text())),
+        ),
+        ("verdict", object(verdict.collect())),
+    ])
+}
+
+fn object(fields: Vec<(&str, String)>) -> String {
+    let fields = fields
+        .iter()
+        .map(|(key, value)| format!("{}: {value}", string(key)));
+    format!("{{{}}}", fields.collect::<Vec<_>>().join(", "))
+}
+
+fn array(items: impl Iterator<Item = String>) -> String {
+    format!("[{}]", items.collect::<Vec<_>>().join(", "))
+}
+
+fn string(text: &str) -> String {
+    let mut quoted = String::from('"');
+    for character in text.chars() {
+        match character {
+            '"' => quoted += "\\\"",
+            '\\' => quoted += "\\\\",
+            _ if character.is_control() => quoted += &format!("\\u{:04x}", u32::from(character)),
+            _ => quoted.push(character),
+        }
+    }
+    quoted.push('"');
+    quoted
+}

@@ -1,0 +1,368 @@
+//! The tool `workbench`, run as a program.
+
+use std::io::Write;
+use std::path::PathBuf;
+use std::process::{Command, Output, Stdio};
+
+use workbench::samples::{a_with, A, LOOP, TWO_RECEIVERS, TWO_SENDERS};
+
+/// A folder of its own for each test, with files in it.
+struct Folder {
+    path: PathBuf,
+}
+
+impl Folder {
+    fn new(test: &str) -> Folder {
+        let path = PathBuf::from(env!("CARGO_TARGET_TMPDIR")).join(test);
+        std::fs::create_dir_all(&path).unwrap();
+        Folder { path }
+    }
+
+    fn put(&self, name: &str, content: impl AsRef<[u8]>) -> &Folder {
+        std::fs::write(self.path.join(name), content).unwrap();
+        self
+    }
+
+    fn run(&self, words: &[&str]) -> Output {
+        let mut command = Command::new(env!("CARGO_BIN_EXE_workbench"));
+        command.current_dir(&self.path).args(words);
+        command.stdin(Stdio::null()).output().unwrap()
+    }
+}
+
+fn text(bytes: &[u8]) -> &str {
+    std::str::from_utf8(bytes).expect("the tool prints UTF-8")
+}
+
+/// What the tool prints for one file, which must be refused.
+fn refused(test: &str, content: impl AsRef<[u8]>) -> String {
+    let output = Folder::new(test).put("f", content).run(&["check", "f"]);
+    assert_eq!(output.status.code(), Some(1));
+    assert!(output.stderr.is_empty());
+    text(&output.stdout).to_string()
+}
+
+#[test]
+fn an_accepted_file_has_a_table() {
+    let output = Folder::new("accepted")
+        .put("a.txt", A)
+        .run(&["check", "a.txt"]);
+    assert_eq!(output.status.code(), Some(0));
+    assert_eq!(
+        text(&output.stdout),
+        "\
+a.txt: accepted, 1 claim holds
+  channel name  claim       one-shot    one-to-one  fan-out     fan-in
+  row 1   1     one-shot    yes         yes         yes         yes
+"
+    );
+}
+
+#[test]
+fn a_refused_file_has_line_place_and_reason() {
+    assert_eq!(
+        refused("rule", a_with("[flow 4 [u]]", "")),
+        "\
+f: refused 10 at line 6: the tables break the flow rule of this row
+  6 | [row 4 [bind 4 [sync 3] 5]]
+    |                ^^^^^^^^
+  Missing from the set of name 4: unit (`u`); it has no line, so it is empty.
+  This sync takes name 3, which may be recv row 3, whose channel, name 1, may be chan row 1; \
+so the set of messages of channel row 1 must lie in the set of name 4.
+"
+    );
+}
+
+#[test]
+fn a_false_claim_has_two_walks() {
+    assert_eq!(
+        refused("parted", TWO_SENDERS.replace("fan-in", "fan-out")),
+        "\
+f: refused 11 at line 15: the claim does not hold
+  15 | [claim 0 fan-out]
+     |          ^^^^^^^
+  By the tables one run may send on channel row 0 at row 3 and at row 5; \
+fan-out allows no two threads that do so.
+  Both walks begin:
+      [row 0 [bind 0 [chan] 1]]
+      [row 1 [bind 1 [send 0 0] 2]]
+      [row 2 [bind 3 [spawn 3] 5]]
+  Row 2 spawns. The new thread goes on:
+      [row 3 [bind 4 [sync 1] 4]]
+  The thread that spawned it goes on:
+      [row 5 [bind 5 [sync 1] 6]]
+"
+    );
+    let nested = refused("nested", format!("{LOOP}[claim 0 one-shot]\n"));
+    assert!(nested.contains("send on channel row 0 at row 3 twice; one-shot allows at most one"));
+    assert!(nested.contains("There the first walk ends, at row 3. The second goes on:\n"));
+    let receives = refused("receives", format!("{TWO_RECEIVERS}[claim 0 one-to-one]\n"));
+    assert!(receives.contains("may receive on channel row 0 at row 3 and at row 5"));
+}
+
+#[test]
+fn every_number_is_explained() {
+    let spawn = "[row 2 [bind 2 [spawn 3] 6]]";
+    let sync = "[row 4 [bind 4 [sync 3] 5]]";
+    let cases: [(&str, String, &str, &str); 22] = [
+        ("1", "x".repeat(32_769), "refused 1:", "at most 32768 bytes"),
+        (
+            "2",
+            String::new(),
+            "refused 2 at line 1:",
+            "The file is empty",
+        ),
+        (
+            "2",
+            A.replace("1]\n[row 0", "2]\n[row 0"),
+            "line 1:",
+            "must be `[dispenser 1]`",
+        ),
+        (
+            "2",
+            A.trim_end().to_string(),
+            "line 19:",
+            "not ended by byte 10",
+        ),
+        (
+            "2",
+            a_with(sync, "[row 4 [bind 4 [synk 3] 5]]"),
+            "line 6:",
+            "`synk` stands",
+        ),
+        (
+            "2",
+            a_with(sync, "[row 4 [bind 04 [sync 3] 5]]"),
+            "line 6:",
+            "no leading zero",
+        ),
+        (
+            "2",
+            a_with("[flow 0 [u]]", "[flow 0 []]"),
+            "line 11:",
+            "never written empty",
+        ),
+        (
+            "2",
+            a_with("[flow 0 [u]]", "[flow 0 [1 u]]"),
+            "line 11:",
+            "`u` may stand first only",
+        ),
+        (
+            "2",
+            format!("{A}[row 9 [result 0]]\n"),
+            "line 20:",
+            "may not follow a claim line",
+        ),
+        (
+            "2",
+            A.replace('\n', "\r\n"),
+            "line 1:",
+            "must be `[dispenser 1]`",
+        ),
+        (
+            "3",
+            a_with("[flow 6 [u]]", "[flow 160 [u]]"),
+            "line 17:",
+            "160 is above 159",
+        ),
+        (
+            "4",
+            "[dispenser 1]\n".to_string(),
+            "line 2:",
+            "must have at least row 0",
+        ),
+        ("4", a_with(spawn, ""), "line 4:", "here row 2 must stand"),
+        (
+            "5",
+            a_with("[flow 4 [u]]", "[flow 3 [u]]"),
+            "line 15:",
+            "flow 3 follows flow 3",
+        ),
+        (
+            "5",
+            a_with("[flow 4 [u]]", "[flow 4 [3 3]]"),
+            "line 15:",
+            "but 3 follows 3",
+        ),
+        (
+            "6",
+            a_with(spawn, "[row 2 [bind 2 [spawn 9] 6]]"),
+            "line 4:",
+            "row 9, which is absent",
+        ),
+        (
+            "6",
+            a_with(sync, "[row 4 [bind 4 [sync 3] 3]]"),
+            "line 6:",
+            "which is not greater",
+        ),
+        (
+            "6",
+            a_with(spawn, "[row 2 [bind 2 [spawn 6] 6]]"),
+            "line 4:",
+            "by row 2 twice",
+        ),
+        (
+            "7",
+            a_with(sync, "[row 4 [bind 3 [sync 3] 5]]"),
+            "line 6:",
+            "bound already by row 3",
+        ),
+        (
+            "8",
+            a_with(sync, "[row 4 [bind 4 [sync 4] 5]]"),
+            "line 6:",
+            "not in scope in its own",
+        ),
+        (
+            "9",
+            a_with("[flow 6 [u]]", "[flow 9 [u]]"),
+            "line 17:",
+            "bound nowhere",
+        ),
+        (
+            "9",
+            a_with("[flow 6 [u]]", "[flow 6 [u 7]]"),
+            "line 17:",
+            "row 7 is a sync row",
+        ),
+    ];
+    for (number, file, place, reason) in cases {
+        let shown = refused("numbers", file);
+        assert!(
+            shown.starts_with(&format!("f: refused {number}")),
+            "{shown}"
+        );
+        assert!(shown.contains(place), "{place} in {shown}");
+        assert!(shown.contains(reason), "{reason} in {shown}");
+        assert!(number == "1" || shown.contains('^'), "{shown}");
+    }
+    let scope = refused("scope", a_with("[row 8 [result 6]]", "[row 8 [result 3]]"));
+    assert!(scope.contains("Name 3 is bound by row 3 (line 5), as the name of the bind."));
+    assert!(scope.contains("It is in scope in rows 4 and 5 only."));
+    let unreached = a_with("[row 7 [bind 6 [sync 5] 8]]", "[row 7 [result 5]]");
+    assert!(refused("none", unreached).contains("No row points at row 8"));
+}
+
+#[test]
+fn json_for_machines() {
+    let folder = Folder::new("json");
+    folder
+        .put("a \"b\".txt", A)
+        .put("r", TWO_SENDERS.replace("fan-in", "fan-out"));
+    let output = folder.run(&["check", "--json", "a \"b\".txt", "r", "no-such"]);
+    assert_eq!(output.status.code(), Some(2));
+    let lines: Vec<&str> = text(&output.stdout).lines().collect();
+    assert_eq!(
+        lines[0],
+        r#"{"file": "a \"b\".txt", "accepted": true, "claims": 1, "channels": [{"row": 1, "name": 1, "claim": "one-shot", "verdict": {"one-shot": true, "one-to-one": true, "fan-out": true, "fan-in": true}}]}"#
+    );
+    let begin = r#"{"file": "r", "accepted": false, "number": 11, "line": 15, "reason": "the claim does not hold", "text": "[claim 0 fan-out]", "columns": [10, 16], "why": ["By the tables"#;
+    assert!(lines[1].starts_with(begin), "{}", lines[1]);
+    assert!(lines[1].ends_with(r#""walks": [[0, 1, 2, 3], [0, 1, 2, 5]]}"#));
+    assert_eq!(
+        lines[2],
+        r#"{"file": "no-such", "error": "there is no such file"}"#
+    );
+}
+
+#[test]
+fn the_status_is_the_worst_of_all_files() {
+    let folder = Folder::new("status");
+    folder.put("good", A).put("bad", "[dispenser 1]\n");
+    let status = |files: &[&str]| folder.run(&[&["check"], files].concat()).status.code();
+    assert_eq!(status(&["good", "good"]), Some(0));
+    assert_eq!(status(&["good", "bad", "good"]), Some(1));
+    assert_eq!(status(&["bad", "missing", "good"]), Some(2));
+}
+
+#[test]
+fn bad_usage_is_told() {
+    let folder = Folder::new("usage");
+    let cases: [(&[&str], &str); 5] = [
+        (&[], "no command given"),
+        (&["check"], "no file given"),
+        (&["check", "--json"], "no file given"),
+        (&["chekc", "f"], "unknown command `chekc`"),
+        (&["check", "--colour", "f"], "unknown option `--colour`"),
+    ];
+    for (words, message) in cases {
+        let output = folder.run(words);
+        assert_eq!(output.status.code(), Some(2), "{words:?}");
+        assert!(output.stdout.is_empty());
+        let stderr = text(&output.stderr);
+        assert!(
+            stderr.contains(message) && stderr.contains("usage: workbench check"),
+            "{stderr}"
+        );
+    }
+    let help = folder.run(&["--help"]);
+    assert_eq!(help.status.code(), Some(0));
+    assert!(text(&help.stdout).starts_with("usage: workbench check"));
+}
+
+#[test]
+fn bad_files_are_told() {
+    let folder = Folder::new("files");
+    std::fs::create_dir_all(folder.path.join("folder")).unwrap();
+    folder
+        .put("large", vec![b'['; 10_000_000])
+        .put("binary", [0xff, 0x00, 0xc3, 0x28, b'\n']);
+    folder
+        .put("accent", A.replace("[unit]", "[un\u{ef}t]"))
+        .put("-dash", A);
+    let shown = |file: &str, status: i32| {
+        let output = folder.run(&["check", "--", file]);
+        assert_eq!(output.status.code(), Some(status), "{file}");
+        assert!(output.stderr.is_empty(), "{}", text(&output.stderr));
+        text(&output.stdout).to_string()
+    };
+    assert_eq!(
+        shown("gone", 2),
+        "gone: not checked: there is no such file\n"
+    );
+    assert_eq!(
+        shown("folder", 2),
+        "folder: not checked: this is a folder, not a file\n"
+    );
+    assert!(
+        shown("large", 1).starts_with("large: refused 1: the file has more than 32,768 bytes\n")
+    );
+    assert!(shown("binary", 1).contains("  1 | \\xff\\x00\\xc3(\n    | ^^^^"));
+    assert!(shown("accent", 1).contains("[un\\xc3\\xaft]"));
+    assert!(shown("-dash", 0).starts_with("-dash: accepted"));
+}
+
+#[test]
+fn a_long_line_is_cut_around_its_fault() {
+    let line = format!("[flow 0 [u{}x]]", " 7".repeat(9_000));
+    let shown = refused("long", a_with("[flow 0 [u]]", &line));
+    assert!(shown.lines().all(|line| line.len() < 130), "{shown}");
+    assert!(
+        shown.contains("7x]]\n") && shown.contains("Here `x` stands"),
+        "{shown}"
+    );
+}
+
+#[test]
+fn standard_input_is_the_file_named_by_a_dash() {
+    let mut child = Command::new(env!("CARGO_BIN_EXE_workbench"))
+        .args(["check", "-"])
+        .stdin(Stdio::piped())
+        .stdout(Stdio::piped())
+        .spawn()
+        .unwrap();
+    child.stdin.take().unwrap().write_all(A.as_bytes()).unwrap();
+    let output = child.wait_with_output().unwrap();
+    assert_eq!(output.status.code(), Some(0));
+    assert!(text(&output.stdout).starts_with("-: accepted, 1 claim holds\n"));
+}
+
+#[test]
+fn what_is_not_a_terminal_has_no_colours() {
+    let folder = Folder::new("colours");
+    folder.put("good", A).put("bad", "[dispenser 1]\n");
+    let output = folder.run(&["check", "good", "bad", "gone"]);
+    assert!(!output.stdout.contains(&0x1b));
+}
