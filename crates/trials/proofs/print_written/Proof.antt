@@ -4,69 +4,43 @@ use lib.Seq.{length-take-le}
 use borrow.Author.Needs.{needs}
 use Rattle.trials.proofs.print_written.Statement.{statement}
 use Rattle.trials.proofs.print_written.Tie as tie
-use Rattle.trials.proofs.print_written.Reads as reads
-use Rattle.trials.proofs.print_written.Lts as lts
-use Rattle.io.proofs.write_all.Reads as write-all-reads
-use Rattle.trials.proofs.print_number.Reads as print-number-reads
-use Rattle.trials.proofs.print_refusal.Reads as print-refusal-reads
 
--- src/main.rt:60:30
 enum-known-answer : tie.Need-enum-known-answer
 enum-known-answer c = search needs
 
--- src/main.rt:61:30
 slice-aggregate-write-all : tie.Need-slice-aggregate-write-all
 slice-aggregate-write-all c = search needs
 
--- src/main.rt:61:13
 write-all-requires : tie.Need-write-all-requires
 write-all-requires c κs = search needs
 
--- src/main.rt:62:13
 print-number-requires : tie.Need-print-number-requires
 print-number-requires c κs = search needs
 
--- src/main.rt:63:30
 slice-aggregate-write-all-2 : tie.Need-slice-aggregate-write-all-2
 slice-aggregate-write-all-2 c = search needs
 
--- src/main.rt:63:13
 write-all-requires-2 : tie.Need-write-all-requires-2
 write-all-requires-2 c κs = search needs
 
--- src/main.rt:65:34
 slice-aggregate-write-all-3 : tie.Need-slice-aggregate-write-all-3
 slice-aggregate-write-all-3 c = sym (length-take-le _ (c .before .before .before .before .before .before .before .before .before .before .before .args .out .now) (c .before .if1 .taken))
 
--- src/main.rt:65:17
 write-all-requires-3 : tie.Need-write-all-requires-3
 write-all-requires-3 c κs = search needs
 
--- src/main.rt:68:30
 enum-known-answer-2 : tie.Need-enum-known-answer-2
 enum-known-answer-2 c = search needs
 
--- src/main.rt:69:13
 print-refusal-requires : tie.Need-print-refusal-requires
 print-refusal-requires c κs = search needs
 
--- src/main.rt:70:30
-slice-aggregate-write-all-4 : tie.Need-slice-aggregate-write-all-4
-slice-aggregate-write-all-4 c = search needs
-
--- src/main.rt:70:13
-write-all-requires-4 : tie.Need-write-all-requires-4
-write-all-requires-4 c κs = search needs
-
--- src/main.rt:58:1
 returns : tie.Need-returns
 returns c = search needs
 
--- src/main.rt:58:1
 returns-2 : tie.Need-returns-2
 returns-2 c = search needs
 
--- src/main.rt:58:1
 returns-3 : tie.Need-returns-3
 returns-3 c = search needs
 
@@ -84,8 +58,6 @@ print-written-spec =
     write-all-requires-3
     enum-known-answer-2
     print-refusal-requires
-    slice-aggregate-write-all-4
-    write-all-requires-4
     returns
     returns-2
     returns-3)
