@@ -1,8 +1,8 @@
 -- Bytes tested from a position on, and rows counted from a row on.
-use Prim.Native.Nat.{ℕ, zero, suc, _+_, _*_, _-_, _≤_, _<_}
+use Prim.Native.Nat.{ℕ, zero, suc, _+_, _*_, _-_, _≤_, _<_, max}
 use native.Mathlib.Omega.{arith}
 use native.Mathlib.Numerals.{add-one}
-use mathlib.Core.Bool.{Bool, true, false}
+use mathlib.Core.Bool.{Bool, true, false, _&&_}
 use mathlib.Core.List.{List, [], _∷_}
 use mathlib.Core.Path.{_≡_, refl, sym, ap, _∙_}
 use lib.ListN.{length, getD, drop}
@@ -10,6 +10,7 @@ use lib.Seq.{drop-cons, drop-length, drop-drop, getD-drop}
 use lib.Dec.{ltb, eqb}
 use native.Mathlib.Nat.{add-zero}
 use borrow.Author.Tests.{lt-ltb, le-ltb, eq-eqb, ne-eqb}
+use Rattle.program.specs.Test.{pick}
 use Rattle.program.specs.Each.{every}
 use Rattle.format.specs.Text.{Bytes, byteAt}
 use Rattle.format.specs.Limits.{rowLimit}
@@ -18,20 +19,39 @@ use Rattle.calls.specs.Canonical.{countRows}
 
 -- ---- bytes below a limit, from position i on
 
+and-true : (a : Bool) → a && true ≡ a
+and-true true = refl
+and-true false = refl
+
+and-false : (a : Bool) → a && false ≡ false
+and-false true = refl
+and-false false = refl
+
+and-assoc : (a b c : Bool) → (a && b) && c ≡ a && (b && c)
+and-assoc true b c = refl
+and-assoc false b c = refl
+
+max-zero : (n : ℕ) → max n 0 ≡ n
+max-zero n = omega arith
+
 abbrev Below : ℕ → Bytes → Bool
 Below limit bs = every (λ x. ltb x limit) bs
 
-pub below-fails : (bs : Bytes) (limit i : ℕ) → i < length bs → limit ≤ getD bs i 0 → false ≡ Below limit (drop i bs)
-unfolding every
-below-fails bs limit i l h = rw (drop-cons bs i 0 l, le-ltb (getD bs i 0) limit h, every)
+-- the flags found so far, with one byte more
+flag-more : (found : ℕ) (b : Bool) → eqb (max found (pick b 0 1)) 0 ≡ eqb found 0 && b
+flag-more found true = ap (λ (k : ℕ). eqb k 0) (max-zero found) ∙ sym (and-true (eqb found 0))
+flag-more found false = ne-eqb (max found 1) 0 (λ e. omega arith) ∙ sym (and-false (eqb found 0))
 
-pub below-goes : (bs : Bytes) (limit i : ℕ) → i < length bs → getD bs i 0 < limit → Below limit (drop i bs) ≡ Below limit (drop (i + 1) bs)
-unfolding every
-below-goes bs limit i l h = rw (drop-cons bs i 0 l, lt-ltb (getD bs i 0) limit h, every, add-one)
+-- all bytes are below the limit exactly if none was found beyond it and those from position i on are below
+module _ (bs : Bytes) (limit i : ℕ) where
+  pub below-goes : (found : ℕ) {x next : ℕ} → i < length bs → x ≡ pick (ltb (getD bs i 0) limit) 0 1 → next ≡ max found x
+      → eqb next 0 && Below limit (drop (i + 1) bs) ≡ eqb found 0 && Below limit (drop i bs)
+  unfolding every
+  below-goes found l e q = rw (q, e, flag-more found (ltb (getD bs i 0) limit), drop-cons bs i 0 l, add-one i) (and-assoc (eqb found 0) (ltb (getD bs i 0) limit) (Below limit (drop (suc i) bs)))
 
-pub below-ends : (bs : Bytes) (limit i : ℕ) → i ≡ length bs → true ≡ Below limit (drop i bs)
-unfolding every
-below-ends bs limit i e = rw (e, drop-length bs)
+  pub below-ends : (found : ℕ) → length bs ≤ i → i ≤ length bs → eqb found 0 && Below limit (drop i bs) ≡ eqb found 0
+  unfolding every
+  below-ends found l m = let q : i ≡ length bs = omega arith in rw (q, drop-length bs) (and-true (eqb found 0))
 
 -- ---- rows from row r on
 

@@ -2,27 +2,42 @@
 use store::Store;
 ghost use mathlib.Core.Path.{_≡_};
 ghost use mathlib.Core.Bool.{true, false, _&&_};
-ghost use Prim.Native.Nat.{_≤_, _<_};
+ghost use Prim.Native.Nat.{_≤_, _<_, max};
 ghost use lib.ListN.{length};
 ghost use lib.Dec.{ltb, eqb};
+ghost use Rattle.program.specs.Test.{pick};
 ghost use Rattle.program.specs.Each.{every};
 ghost use Rattle.format.specs.Limits.{rowLimit};
 ghost use Rattle.calls.specs.Layout.{rowSize, storeSize};
 ghost use Rattle.calls.specs.Canonical.{countRows, rowSound, rowsSound, restZero, flagsSound, claimsSound};
 ghost use Rattle.opening.specs.Rows.{usedBytes};
 
-// Whether every byte is below a limit.
+// The larger number.
+fn larger(a: u8, b: u8) -> u8
+    ensures { λ m. ⌜ m ≡ max a b ⌝ }
+{
+    if a < b { b } else { a }
+}
+
+// 0 if a byte is below a limit, else 1.
+fn beyond(byte: u8, limit: u8) -> u8
+    ensures { λ m. ⌜ m ≡ pick (ltb byte limit) 0 1 ⌝ }
+{
+    if byte < limit { 0 } else { 1 }
+}
+
+// Whether every byte is below a limit. Every byte is looked at, so that the loop takes many bytes at a time.
 fn all_below(bytes: &[u8], limit: u8) -> bool
     ensures { λ b. ⌜ b ≡ every (λ x. ltb x limit) (now (bytes .entry)) ⌝ }
 {
+    let mut found = 0;
     let mut i = 0;
     while i < bytes.len() {
-        if limit <= bytes[i] {
-            return false;
-        }
+        let x = beyond(bytes[i], limit);
+        found = larger(found, x);
         i += 1;
     }
-    true
+    found == 0
 }
 
 // Whether every byte is 0.

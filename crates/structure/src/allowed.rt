@@ -7,7 +7,7 @@ use store::Store;
 use store::row_at;
 ghost use mathlib.Core.Path.{_≡_};
 ghost use Prim.Native.Nat.{_+_, _*_, _≤_};
-ghost use lib.ListN.{drop, take};
+ghost use lib.ListN.{length, drop, take};
 ghost use Rattle.program.specs.Program.{isValue, chanRow};
 ghost use Rattle.format.specs.Limits.{rowLimit};
 ghost use Rattle.format.specs.Structure.{memberAllowed, notAllowed};
@@ -128,18 +128,18 @@ fn member_code(mark: u8, allowed: u8) -> u8
     1
 }
 
-// The set at a position: 0 if it has no member, 1 if all its members are allowed, 2 if one is not.
+// The set at a position: 0 if it has no member, 1 if all its members are allowed, 2 if one is not. Every member is looked at, so that
+// the loop takes many bytes at a time.
 fn set_code(store: &[u8], at: usize, members: &[u8]) -> u8
     requires { ⌜ at ≤ storeSize ⌝ }
+    requires { ⌜ (at + memberLimit ≤ length (now store)) × (memberLimit ≤ length (now members)) ⌝ }
     ensures { λ k. ⌜ k ≡ setCode (now (members .entry)) (setAt (now (store .entry)) at) ⌝ }
 {
     let mut code = 0;
     let mut m = 0;
     while m < Store::MEMBERS {
-        let p = at + m;
-        let mark = text::byte_at(store, p);
-        let allowed = text::byte_at(members, m);
-        code = larger(code, member_code(mark, allowed));
+        let x = member_code(store[at + m], members[m]);
+        code = larger(code, x);
         m += 1;
     }
     code
@@ -148,6 +148,7 @@ fn set_code(store: &[u8], at: usize, members: &[u8]) -> u8
 // The set of name or channel n, where the sets begin at base: 0 if it has no member, 1 if its key and its members are allowed, 2 if one is not.
 fn line_code(store: &[u8], base: usize, n: usize, keys: &[u8], members: &[u8]) -> u8
     requires { ⌜ base + n * memberLimit ≤ storeSize ⌝ }
+    requires { ⌜ (base + n * memberLimit + memberLimit ≤ length (now store)) × (memberLimit ≤ length (now members)) ⌝ }
     ensures { λ k. ⌜ k ≡ lineCode (now (keys .entry)) (now (members .entry)) n (setAt (now (store .entry)) (base + n * memberLimit)) ⌝ }
 {
     let at = base + n * Store::MEMBERS;
@@ -171,6 +172,7 @@ pub enum Lines {
 fn check_sets(store: &[u8], base: usize, line: usize, keys: &[u8], members: &[u8]) -> Lines
     requires { ⌜ base ≤ rowsSize + setsSize ⌝ }
     requires { ⌜ line ≤ 4 * rowLimit ⌝ }
+    requires { ⌜ (storeSize ≤ length (now store)) × (memberLimit ≤ length (now members)) ⌝ }
     ensures { λ x. ⌜ x ≡ checked (entryMarked (now (keys .entry)) (now (members .entry))) line (decodeSets rowLimit 0 (drop base (now (store .entry)))) ⌝ }
 {
     let mut next = line;
@@ -215,6 +217,7 @@ fn check_claims(store: &[u8], line: usize, keys: &[u8]) -> Lines
 // The first flow, comm or claim line that names what it may not, or 0.
 pub fn not_allowed(store: &[u8], rows: u8) -> usize
     requires { ⌜ rows ≤ rowLimit ⌝ }
+    requires { ⌜ storeSize ≤ length (now store) ⌝ }
     ensures { λ n. ⌜ n ≡ lineOr (notAllowed (storeDocument rows (now (store .entry)))) ⌝ }
 {
     let members = allowed_members(store, rows);

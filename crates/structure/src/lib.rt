@@ -4,7 +4,9 @@ use format::Refusal;
 ghost use mathlib.Core.Path.{_≡_};
 ghost use Prim.Native.Nat.{_≤_};
 ghost use Rattle.format.specs.Refusals.{refusal};
+ghost use lib.ListN.{length};
 ghost use Rattle.format.specs.Limits.{rowLimit};
+ghost use Rattle.calls.specs.Layout.{storeSize};
 ghost use Rattle.format.specs.Structure.{rowLine, structureFault};
 ghost use Rattle.structure.specs.Lines.{storeDocument};
 ghost use Rattle.structure.specs.Answer.{structureRead};
@@ -37,6 +39,7 @@ fn at_row(reason: Reason, r: u8) -> Structure
 // The first refusal of 6, 7, 8 and 9 of a store with this many rows.
 pub fn structure_fault(store: &[u8], rows: u8) -> Structure
     requires { ⌜ rows ≤ rowLimit ⌝ }
+    requires { ⌜ storeSize ≤ length (now store) ⌝ }
     ensures { λ x. ⌜ structureRead x ≡ structureFault (storeDocument rows (now (store .entry))) ⌝ }
 {
     let pointer = pointer_fault(store, rows);

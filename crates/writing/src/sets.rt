@@ -4,7 +4,7 @@ use store::Store;
 ghost use mathlib.Core.Bool.{So};
 ghost use mathlib.Core.List.{[]};
 ghost use mathlib.Core.Path.{_≡_};
-ghost use Prim.Native.Nat.{_<_, _≤_};
+ghost use Prim.Native.Nat.{_<_, _≤_, max};
 ghost use lib.ListN.{length};
 ghost use Rattle.program.specs.Each.{collect};
 ghost use Rattle.format.specs.Limits.{rowLimit};
@@ -27,18 +27,24 @@ fn put_member(out: &mut [u8], at: usize, m: usize) -> usize
     text::put_number(out, at, row)
 }
 
-// Whether a set has a member.
+// The larger number.
+fn larger(a: u8, b: u8) -> u8
+    ensures { λ m. ⌜ m ≡ max a b ⌝ }
+{
+    if a < b { b } else { a }
+}
+
+// Whether a set has a member. Every byte is looked at, so that the loop takes many at a time.
 fn has_member(flags: &[u8]) -> bool
     ensures { λ r. ⌜ r ≡ present (membersFrom 0 (now (flags .entry))) ⌝ }
 {
+    let mut found = 0;
     let mut i = 0;
     while i < flags.len() {
-        if flags[i] != 0 {
-            return true;
-        }
+        found = larger(found, flags[i]);
         i += 1;
     }
-    false
+    0 < found
 }
 
 // Writes a set that has a member.
@@ -99,15 +105,15 @@ pub fn put_sets(out: &mut [u8], at: usize, word: &[u8], sets: &[u8]) -> usize
 // How many of these sets have a member, and so a line.
 pub fn count_sets(sets: &[u8]) -> usize
     requires { ⌜ setsSize ≤ length (now sets) ⌝ }
-    ensures { λ k. ⌜ k ≡ length (decodeSets rowLimit 0 (now (sets .entry))) ⌝ }
+    ensures { λ r. ⌜ r ≡ length (decodeSets rowLimit 0 (now (sets .entry))) ⌝ }
 {
     let mut lines = 0;
-    let mut n = 0;
-    while n < Store::ROWS {
-        let from = n * Store::MEMBERS;
-        let to = from + Store::MEMBERS;
-        n += 1;
-        if has_member(&sets[from..to]) {
+    let mut k = 0;
+    while k < Store::ROWS {
+        let start = k * Store::MEMBERS;
+        let end = start + Store::MEMBERS;
+        k += 1;
+        if has_member(&sets[start..end]) {
             lines += 1;
             continue;
         }

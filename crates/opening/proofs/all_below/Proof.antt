@@ -1,50 +1,46 @@
--- `all_below` meets its contract: all bytes pass the test exactly if those from position i on do.
-use borrow.Author.Needs.{needs}
+-- `all_below` meets its contract: all bytes pass exactly if none was found that fails and those from position i on pass.
 use Prim.Native.Nat.{_≤_, _-_}
+use mathlib.Core.Bool.{_&&_}
 use mathlib.Core.Path.{_≡_, refl, sym, _∙_}
 use native.Mathlib.Omega.{arith}
 use lib.ListN.{length, drop}
-use lib.Dec.{ltb}
+use lib.Dec.{ltb, eqb}
 use Rattle.program.specs.Each.{every}
-use Rattle.opening.proofs.Counting.{below-fails, below-goes, below-ends}
+use Rattle.opening.proofs.Counting.{below-goes, below-ends}
+use borrow.Author.Needs.{needs}
 use Rattle.opening.proofs.all_below.Statement.{statement}
 use Rattle.opening.proofs.all_below.Tie as tie
-use Rattle.opening.proofs.all_below.Reads as reads
-use Rattle.opening.proofs.all_below.Lts as lts
 
 abbrev Inv-loop : tie.InvT-loop
-Inv-loop bytes limit i₀ i = (i ≤ length bytes) × (every (λ x. ltb x limit) bytes ≡ every (λ x. ltb x limit) (drop i bytes))
+Inv-loop bytes limit found₀ i₀ found i =
+    (i ≤ length bytes) × (eqb found 0 && every (λ x. ltb x limit) (drop i bytes) ≡ every (λ x. ltb x limit) bytes)
 
 abbrev μ-loop : tie.MeasureT-loop
-μ-loop bytes limit i₀ i = length bytes - i
+μ-loop bytes limit found₀ i₀ found i = length bytes - i
 
--- src/lib.rt:20:5
 loop-holds : tie.Need-loop-holds Inv-loop μ-loop
 loop-holds c = (omega arith, refl)
 
--- src/lib.rt:21:21
-shared-slice-read-if1 : tie.Need-shared-slice-read-if1 Inv-loop μ-loop
-shared-slice-read-if1 c = search needs
+shared-slice-read-beyond : tie.Need-shared-slice-read-beyond Inv-loop μ-loop
+shared-slice-read-beyond c = search needs
 
--- src/lib.rt:22:13
-returns : tie.Need-returns Inv-loop μ-loop
-returns c = below-fails _ _ _ (c .before .before .loop-test .taken) (c .if1 .taken) ∙ sym (c .before .before .before .loop .inv .1)
+beyond-requires : tie.Need-beyond-requires Inv-loop μ-loop
+beyond-requires c κs = search needs
 
--- src/lib.rt:24:9
+larger-requires : tie.Need-larger-requires Inv-loop μ-loop
+larger-requires c κs = search needs
+
 add-i : tie.Need-add-i Inv-loop μ-loop
 add-i c = search needs
 
--- src/lib.rt:20:5
 loop-less : tie.Need-loop-less Inv-loop μ-loop
 loop-less c = search needs
 
--- src/lib.rt:20:5
 loop-again : tie.Need-loop-again Inv-loop μ-loop
-loop-again c = (omega arith, c .before .before .before .loop .inv .1 ∙ below-goes _ _ _ (c .before .before .loop-test .taken) (c .if1 .left))
+loop-again c = (omega arith, below-goes _ _ _ _ (c .before .before .before .loop-test .taken) (c .before .beyond .ensures) (c .larger .ensures) ∙ c .before .before .before .before .loop .inv .1)
 
--- src/lib.rt:16:1
-returns-2 : tie.Need-returns-2 Inv-loop μ-loop
-returns-2 c = below-ends (c .before .before .args .bytes .now) (c .before .before .args .limit) (c .before .loop .i) (omega arith) ∙ sym (c .before .loop .inv .1)
+returns : tie.Need-returns Inv-loop μ-loop
+returns c = sym (below-ends (c .before .before .before .args .bytes .now) (c .before .before .before .args .limit) (c .before .loop .i) (c .before .loop .found) (c .loop-test .left) (c .before .loop .inv .0)) ∙ c .before .loop .inv .1
 
 pub all-below-spec : {M : Type 1} → statement M
 all-below-spec =
@@ -53,9 +49,10 @@ all-below-spec =
     Inv-loop
     μ-loop
     loop-holds
-    shared-slice-read-if1
-    returns
+    shared-slice-read-beyond
+    beyond-requires
+    larger-requires
     add-i
     loop-less
     loop-again
-    returns-2)
+    returns)

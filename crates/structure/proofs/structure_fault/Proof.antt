@@ -11,7 +11,7 @@ at-row-requires : tie.Need-at-row-requires
 at-row-requires c κs = search needs
 
 returns : tie.Need-returns
-returns c = rw (c .at-row .ensures) (pointer-refused _ _ (c .before .before .before .before .pre) (c .before .before .pointer-fault .ensures) (c .before .if1 .taken))
+returns c = rw (c .at-row .ensures) (pointer-refused _ _ (c .before .before .before .before .pre .0) (c .before .before .pointer-fault .ensures) (c .before .if1 .taken))
 
 binder-fault-requires : tie.Need-binder-fault-requires
 binder-fault-requires c κs = search needs
@@ -20,7 +20,7 @@ at-row-requires-2 : tie.Need-at-row-requires-2
 at-row-requires-2 c κs = search needs
 
 returns-2 : tie.Need-returns-2
-returns-2 c = rw (c .at-row2 .ensures) (binder-refused _ _ (c .before .before .before .before .before .before .pre) (c .before .before .before .before .pointer-fault .ensures) (c .before .before .before .if1 .left) (c .before .before .binder-fault .ensures) (c .before .if2 .taken))
+returns-2 c = rw (c .at-row2 .ensures) (binder-refused _ _ (c .before .before .before .before .before .before .pre .0) (c .before .before .before .before .pointer-fault .ensures) (c .before .before .before .if1 .left) (c .before .before .binder-fault .ensures) (c .before .if2 .taken))
 
 scope-fault-requires : tie.Need-scope-fault-requires
 scope-fault-requires c κs = search needs
@@ -29,16 +29,16 @@ at-row-requires-3 : tie.Need-at-row-requires-3
 at-row-requires-3 c κs = search needs
 
 returns-3 : tie.Need-returns-3
-returns-3 c = rw (c .at-row3 .ensures) (scope-refused _ _ (c .before .before .before .before .before .before .before .before .pre) (c .before .before .before .before .before .before .pointer-fault .ensures) (c .before .before .before .before .before .if1 .left) (c .before .before .before .before .binder-fault .ensures) (c .before .before .before .if2 .left) (c .before .before .scope-fault .ensures) (c .before .if3 .taken))
+returns-3 c = rw (c .at-row3 .ensures) (scope-refused _ _ (c .before .before .before .before .before .before .before .before .pre .0) (c .before .before .before .before .before .before .pointer-fault .ensures) (c .before .before .before .before .before .if1 .left) (c .before .before .before .before .binder-fault .ensures) (c .before .before .before .if2 .left) (c .before .before .scope-fault .ensures) (c .before .if3 .taken))
 
 not-allowed-requires : tie.Need-not-allowed-requires
 not-allowed-requires c κs = search needs
 
 returns-4 : tie.Need-returns-4
-returns-4 c = line-refused _ _ (c .before .before .before .before .before .before .before .before .before .pre) (c .before .before .before .before .before .before .before .pointer-fault .ensures) (c .before .before .before .before .before .before .if1 .left) (c .before .before .before .before .before .binder-fault .ensures) (c .before .before .before .before .if2 .left) (c .before .before .before .scope-fault .ensures) (c .before .before .if3 .left) (c .before .not-allowed .ensures) (c .if4 .taken)
+returns-4 c = line-refused _ _ (c .before .before .before .before .before .before .before .before .before .pre .0) (c .before .before .before .before .before .before .before .pointer-fault .ensures) (c .before .before .before .before .before .before .if1 .left) (c .before .before .before .before .before .binder-fault .ensures) (c .before .before .before .before .if2 .left) (c .before .before .before .scope-fault .ensures) (c .before .before .if3 .left) (c .before .not-allowed .ensures) (c .if4 .taken)
 
 returns-5 : tie.Need-returns-5
-returns-5 c = none-refused _ _ (c .before .before .before .before .before .before .before .before .before .pre) (c .before .before .before .before .before .before .before .pointer-fault .ensures) (c .before .before .before .before .before .before .if1 .left) (c .before .before .before .before .before .binder-fault .ensures) (c .before .before .before .before .if2 .left) (c .before .before .before .scope-fault .ensures) (c .before .before .if3 .left) (c .before .not-allowed .ensures) (c .if4 .left)
+returns-5 c = none-refused _ _ (c .before .before .before .before .before .before .before .before .before .pre .0) (c .before .before .before .before .before .before .before .pointer-fault .ensures) (c .before .before .before .before .before .before .if1 .left) (c .before .before .before .before .before .binder-fault .ensures) (c .before .before .before .before .if2 .left) (c .before .before .before .scope-fault .ensures) (c .before .before .if3 .left) (c .before .not-allowed .ensures) (c .if4 .left)
 
 pub structure-fault-spec : {M : Type 1} → statement M
 structure-fault-spec =

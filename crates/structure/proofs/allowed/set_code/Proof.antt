@@ -2,10 +2,10 @@
 -- Each turn takes one member more, so the loop ends.
 use Prim.Native.Nat.{_≤_, max, _-_}
 use native.Mathlib.Omega.{arith}
-use mathlib.Core.Path.{_≡_, ap, ap₂, _∙_}
+use mathlib.Core.Path.{_≡_, ap, _∙_}
 use borrow.Author.Needs.{needs}
 use Rattle.calls.specs.Layout.{memberLimit}
-use Rattle.structure.specs.Lines.{memberCode, setCode, setAt}
+use Rattle.structure.specs.Lines.{setCode, setAt}
 use Rattle.structure.proofs.Sets.{membersOn, set-start, set-step, set-end}
 use Rattle.structure.proofs.allowed.set_code.Statement.{statement}
 use Rattle.structure.proofs.allowed.set_code.Tie as tie
@@ -20,14 +20,14 @@ abbrev μ-loop : tie.MeasureT-loop
 loop-holds : tie.Need-loop-holds Inv-loop μ-loop
 loop-holds c = (omega arith, omega (arith, set-start (c .before .before .args .store .now) (c .before .before .args .members .now) (c .before .before .args .at)))
 
-add-p : tie.Need-add-p Inv-loop μ-loop
-add-p c = search needs
+add-member-code : tie.Need-add-member-code Inv-loop μ-loop
+add-member-code c = search needs
 
-byte-at-requires : tie.Need-byte-at-requires Inv-loop μ-loop
-byte-at-requires c κs = search needs
+shared-slice-read-member-code : tie.Need-shared-slice-read-member-code Inv-loop μ-loop
+shared-slice-read-member-code c = search needs
 
-byte-at-requires-2 : tie.Need-byte-at-requires-2 Inv-loop μ-loop
-byte-at-requires-2 c κs = search needs
+shared-slice-read-member-code-2 : tie.Need-shared-slice-read-member-code-2 Inv-loop μ-loop
+shared-slice-read-member-code-2 c = search needs
 
 member-code-requires : tie.Need-member-code-requires Inv-loop μ-loop
 member-code-requires c κs = search needs
@@ -42,9 +42,7 @@ loop-less : tie.Need-loop-less Inv-loop μ-loop
 loop-less c = search needs
 
 loop-again : tie.Need-loop-again Inv-loop μ-loop
-loop-again c =
-    let code = c .larger .ensures ∙ ap (max (c .before .before .before .before .before .loop .code)) (c .before .member-code .ensures ∙ ap₂ memberCode (c .before .before .before .byte-at .ensures) (c .before .before .byte-at2 .ensures)) in
-    (omega arith, omega (arith, set-step (c .before .before .before .before .before .before .before .before .args .store .now) (c .before .before .before .before .before .before .before .before .args .members .now) (c .before .before .before .before .before .before .before .before .args .at) (c .before .before .before .before .before .loop .m) (c .before .before .before .before .loop-test .taken)))
+loop-again c = let code = c .larger .ensures ∙ ap (max (c .before .before .before .before .before .loop .code)) (c .before .member-code .ensures) in (omega arith, omega (arith, set-step (c .before .before .before .before .before .before .before .before .args .store .now) (c .before .before .before .before .before .before .before .before .args .members .now) (c .before .before .before .before .before .before .before .before .args .at) (c .before .before .before .before .before .loop .m) (c .before .before .before .before .loop-test .taken)))
 
 returns : tie.Need-returns Inv-loop μ-loop
 returns c = omega (arith, set-end (c .before .before .before .before .args .store .now) (c .before .before .before .before .args .members .now) (c .before .before .before .before .args .at) (c .before .loop .m) (c .loop-test .left))
@@ -56,9 +54,9 @@ set-code-spec =
     Inv-loop
     μ-loop
     loop-holds
-    add-p
-    byte-at-requires
-    byte-at-requires-2
+    add-member-code
+    shared-slice-read-member-code
+    shared-slice-read-member-code-2
     member-code-requires
     larger-requires
     add-m

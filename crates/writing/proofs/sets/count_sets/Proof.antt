@@ -1,4 +1,4 @@
--- The loop's invariant: the lines counted and those of the sets from n on are all. The measure is the number of sets left.
+-- The loop's invariant: the lines counted and those of the sets from k on are all. The measure is the number of sets left.
 use Prim.Native.Nat.{_+_, _-_, _≤_}
 use native.Mathlib.Omega.{arith}
 use native.Mathlib.Nat.{zero-add}
@@ -10,23 +10,23 @@ use Rattle.writing.proofs.sets.count_sets.Statement.{statement}
 use Rattle.writing.proofs.sets.count_sets.Tie as tie
 
 abbrev Inv-loop : tie.InvT-loop
-Inv-loop sets lines₀ n₀ lines n =
-    (n ≤ rowLimit) × (lines ≤ n) × (lines + entriesFrom rowLimit n sets ≡ entriesFrom rowLimit 0 sets)
+Inv-loop sets lines₀ k₀ lines k =
+    (k ≤ rowLimit) × (lines ≤ k) × (lines + entriesFrom rowLimit k sets ≡ entriesFrom rowLimit 0 sets)
 
 abbrev μ-loop : tie.MeasureT-loop
-μ-loop sets lines₀ n₀ lines n = rowLimit - n
+μ-loop sets lines₀ k₀ lines k = rowLimit - k
 
 loop-holds : tie.Need-loop-holds Inv-loop μ-loop
 loop-holds c = (omega arith, omega arith, zero-add _)
 
-mul-from : tie.Need-mul-from Inv-loop μ-loop
-mul-from c = search needs
+mul-start : tie.Need-mul-start Inv-loop μ-loop
+mul-start c = search needs
 
-add-to : tie.Need-add-to Inv-loop μ-loop
-add-to c = search needs
+add-end : tie.Need-add-end Inv-loop μ-loop
+add-end c = search needs
 
-add-n : tie.Need-add-n Inv-loop μ-loop
-add-n c = search needs
+add-k : tie.Need-add-k Inv-loop μ-loop
+add-k c = search needs
 
 sub-has-member : tie.Need-sub-has-member Inv-loop μ-loop
 sub-has-member c = search needs
@@ -65,9 +65,9 @@ count-sets-spec =
     Inv-loop
     μ-loop
     loop-holds
-    mul-from
-    add-to
-    add-n
+    mul-start
+    add-end
+    add-k
     sub-has-member
     part-has-member-start
     part-has-member-end
