@@ -113,6 +113,9 @@ fn try_channels(file: &[u8]) {
     print_verdict(checker::verdict(&store, 0));
     print_verdict(checker::verdict(&store, 9));
     print_verdict(checker::verdict(&store, 1000000));
+    print_name(b"load and judge at once, of example A and of an empty file");
+    print_judged(acceptance::accept(file, &mut store));
+    print_judged(acceptance::accept(b"", &mut store));
 }
 
 // The file on standard input: it has as many bytes as a file may have, and 160 rows.

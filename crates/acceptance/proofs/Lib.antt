@@ -1,0 +1,2 @@
+-- The contract of `accept`, from those of load and judge.
+pub mod Accepting

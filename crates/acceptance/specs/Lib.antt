@@ -1,0 +1,2 @@
+-- What accepting a file promises.
+pub mod Accepting
