@@ -23,7 +23,8 @@ use Rattle.flow.specs.declared.rules.Ask.{Ask}
 use Rattle.flow.specs.Sets.{Marks, setOf}
 use Rattle.forms.specs.Forms.{formIn}
 use Rattle.flow.specs.Rules.{meets, sendDemand, chanTest, sendTest, recvTest, asks, syncTest, storeAsks}
-use Rattle.flow.proofs.Tests.{implies-and, all-same, all-and, all-false}
+use Rattle.program.proofs.Test.{all-same}
+use Rattle.flow.proofs.Tests.{implies-and, all-and, all-false}
 use Rattle.flow.proofs.Members.{marks-lies}
 use Rattle.forms.proofs.Forms.{isChan, chan-at, every-form}
 

@@ -9,7 +9,6 @@ use mathlib.Core.Path.{_≡_, refl, ap, _∙_, fun-ext}
 use lib.ListN.{length, getD, take, drop, replicate, length-take, length-drop, set, length-set, length-replicate, List·getD-eq-default}
 use lib.Seq.{getD-take, getD-drop, getD-set-same, getD-set-other}
 use lib.Dec.{ltb, leb, eqb}
-use mir.Val.{boolByte}
 use borrow.Author.Tests.{lt-ltb, le-ltb, le-leb, lt-leb, ne-eqb}
 use Rattle.program.specs.Test.{pick, _⇒_}
 use Rattle.program.specs.Flow.{u, Set, forEach, lies}
@@ -21,7 +20,8 @@ use Rattle.store.specs.Rows.{storeProgram}
 use Rattle.store.proofs.Laws.{program-length}
 use Rattle.tables.specs.Tables.{flagAt, flowFlag, commFlag, storeFlow, storeComm}
 use Rattle.flow.specs.Sets.{setOf, partAt, within, unlessIn, liesBelow, Marks}
-use Rattle.flow.proofs.Tests.{implies-true, all-same, all-true, all-shift}
+use Rattle.program.proofs.Test.{all-same}
+use Rattle.flow.proofs.Tests.{implies-true, all-true, all-shift}
 
 -- ---- the bytes of two sets
 
@@ -146,7 +146,3 @@ marks-more n v {s} {f} l m e =
         | no d ↦ rw (getD-set-other s (n + 1) (r + 1) v 0 (λ q. d (omega arith))) (m .rows r (omega arith))
       ];
     }
-
-pub bool-byte : (b : Bool) → ltb 0 (boolByte b) ≡ b
-bool-byte true = refl
-bool-byte false = refl

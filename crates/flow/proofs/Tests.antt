@@ -4,16 +4,12 @@ use native.Mathlib.Omega.{arith}
 use native.Mathlib.Decide.{decLt}
 use mathlib.Core.Bool.{Bool, true, false, not, _&&_, false≢true}
 use mathlib.Core.Logic.{⊎-elim}
-use mathlib.Core.Path.{_≡_, refl, sym, ap, ap₂, _∙_}
+use mathlib.Core.Path.{_≡_, refl, sym, ap, _∙_}
 use mathlib.Core.Option.{Option, none, some}
 use Rattle.program.specs.Test.{_⇒_, all, least}
-use Rattle.program.proofs.Test.{below, Least, none-passes, smallest, least-is, none-least}
+use Rattle.program.proofs.Test.{below, Least, none-passes, smallest, least-is, none-least, and-false}
 use Rattle.format.specs.Limits.{rowLimit}
 use Rattle.flow.specs.Rules.{rowOr}
-
-pub and-false : (a : Bool) → a && false ≡ false
-and-false true = refl
-and-false false = refl
 
 pub implies-true : (a : Bool) → a ⇒ true ≡ true
 implies-true true = refl
@@ -33,11 +29,6 @@ and-four false b c d = refl
 pub implies-and : (s a b : Bool) → s ⇒ (a && b) ≡ (s ⇒ a) && (s ⇒ b)
 implies-and true a b = refl
 implies-and false a b = refl
-
-pub all-same : (n : ℕ) (f g : ℕ → Bool) → ((i : ℕ) → i < n → f i ≡ g i) → all n f ≡ all n g
-unfolding all
-all-same zero f g h = refl
-all-same (suc n) f g h = ap₂ _&&_ (h n (omega arith)) (all-same n f g λ i l. h i (omega arith))
 
 pub all-true : (n : ℕ) → all n (λ i. true) ≡ true
 unfolding all
@@ -67,10 +58,6 @@ and-taken e t q = rw (← e, t) q
 
 pub and-left : {r a : Bool} (b : Bool) → r ≡ a → r ≡ false → false ≡ a && b
 and-left b e t = rw (← e, t)
-
-pub and-true : (a : Bool) → a && true ≡ a
-and-true true = refl
-and-true false = refl
 
 -- ---- the smallest number that fails
 

@@ -27,7 +27,7 @@ ghost use Rattle.flow.specs.Sets.{Sized};
 ghost use Rattle.flow.specs.Rules.{rowOr, Names, Sends, sendTest, syncTest};
 
 mod sets; // sets.rt: sets as bytes, and whether one lies in another
-mod rows; // rows.rt: the rows of the program, and the results that they come to
+mod rows; // rows.rt: the results that the rows come to
 mod channels; // channels.rt: what is asked of the channels of a send or recv row
 mod rules; // rules.rt: what a form asks of each row in its set
 

@@ -1,16 +1,16 @@
 -- Bytes tested from a position on, and rows counted from a row on.
-use Prim.Native.Nat.{ℕ, zero, suc, _+_, _*_, _-_, _≤_, _<_, max}
+use Prim.Native.Nat.{ℕ, suc, _+_, _*_, _-_, _≤_, _<_, max}
 use native.Mathlib.Omega.{arith}
 use native.Mathlib.Numerals.{add-one}
 use mathlib.Core.Bool.{Bool, true, false, _&&_}
-use mathlib.Core.List.{List, [], _∷_}
-use mathlib.Core.Path.{_≡_, refl, sym, ap, _∙_}
+use mathlib.Core.Path.{_≡_, sym, ap, _∙_}
 use lib.ListN.{length, getD, drop}
 use lib.Seq.{drop-cons, drop-length, drop-drop, getD-drop}
 use lib.Dec.{ltb, eqb}
 use native.Mathlib.Nat.{add-zero}
-use borrow.Author.Tests.{lt-ltb, le-ltb, eq-eqb, ne-eqb}
+use borrow.Author.Tests.{eq-eqb, ne-eqb}
 use Rattle.program.specs.Test.{pick}
+use Rattle.program.proofs.Test.{and-true, and-false, and-assoc}
 use Rattle.program.specs.Each.{every}
 use Rattle.format.specs.Text.{Bytes, byteAt}
 use Rattle.format.specs.Limits.{rowLimit}
@@ -18,18 +18,6 @@ use Rattle.calls.specs.Layout.{rowSize}
 use Rattle.calls.specs.Canonical.{countRows}
 
 -- ---- bytes below a limit, from position i on
-
-and-true : (a : Bool) → a && true ≡ a
-and-true true = refl
-and-true false = refl
-
-and-false : (a : Bool) → a && false ≡ false
-and-false true = refl
-and-false false = refl
-
-and-assoc : (a b c : Bool) → (a && b) && c ≡ a && (b && c)
-and-assoc true b c = refl
-and-assoc false b c = refl
 
 max-zero : (n : ℕ) → max n 0 ≡ n
 max-zero n = omega arith

@@ -10,6 +10,7 @@ use mathlib.Core.Path.{_≡_, refl, _∙_, fun-ext}
 use lib.ListN.{getD, take, drop, length-take, List·getD-eq-default}
 use lib.Seq.{getD-take, getD-drop, drop-drop}
 use lib.Dec.{ltb, leb, eqb}
+use mir.Val.{boolByte}
 use borrow.Author.Tests.{eq-eqb, ne-eqb, lt-ltb, eqb-true, eqb-false, le-leb, lt-leb}
 use Rattle.program.specs.Test.{pick}
 use Rattle.program.specs.Each.{elem}
@@ -138,3 +139,8 @@ row-past s n r l = rw (flag-past s flowAt n (suc r) (omega arith))
 pub row-flag : (s : Bytes) (n r : ℕ) → storeFlow s n (row r) ≡ ltb 0 (flowFlag s n (r + 1))
 unfolding storeFlow member
 row-flag s n r = rw (add-one r)
+
+-- a test as a byte
+pub bool-byte : (b : Bool) → ltb 0 (boolByte b) ≡ b
+bool-byte true = refl
+bool-byte false = refl

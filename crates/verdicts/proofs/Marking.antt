@@ -1,25 +1,19 @@
 -- Sets of rows as bytes: what a loop over them finds, and arrays that a loop fills.
-use Prim.Native.Nat.{ℕ, zero, suc, _+_, _<_, _≤_, max, min}
+use Prim.Native.Nat.{ℕ, _+_, _<_, max, min}
 use native.Mathlib.Omega.{arith}
 use native.Mathlib.Numerals.{add-one}
 use native.Mathlib.Decide.{decLt, ℕ-discrete as decEq}
-use mathlib.Core.Bool.{Bool, true, false, _&&_, _||_}
-use mathlib.Core.Path.{_≡_, refl, sym, ap₂, _∙_}
-use lib.ListN.{length, set, replicate, length-set, length-replicate}
+use mathlib.Core.Bool.{Bool, _&&_, _||_}
+use mathlib.Core.Path.{_≡_, _∙_}
+use lib.ListN.{set, replicate, length-set, length-replicate}
 use lib.Seq.{getD-set-same, getD-set-other}
 use lib.Dec.{ltb}
 use borrow.Author.Tests.{lt-ltb, le-ltb, ne-eqb}
-use mir.Val.{boolByte}
 use Rattle.program.specs.Test.{any}
 use Rattle.format.specs.Limits.{rowLimit}
 use Rattle.format.specs.Text.{Bytes, byteAt}
 use Rattle.verdicts.specs.Walks.{comesTo}
 use Rattle.verdicts.specs.Marks.{on, Marked, meets, threeMeet}
-
-pub any-same : (n : ℕ) (f g : ℕ → Bool) → ((i : ℕ) → i < n → f i ≡ g i) → any n f ≡ any n g
-unfolding any
-any-same zero f g h = refl
-any-same (suc n) f g h = ap₂ _||_ (h n (omega arith)) (any-same n f g λ i l. h i (omega arith))
 
 -- ---- the larger and the smaller of two bytes
 
@@ -64,10 +58,6 @@ module _ (i found : ℕ) {next : ℕ} where
       rw (add-one i, r, over-max found y, d, e, h)
 
 -- ---- arrays that a loop fills
-
-pub bool-byte : (b : Bool) → ltb 0 (boolByte b) ≡ b
-bool-byte true = refl
-bool-byte false = refl
 
 pub marked-none : (f : ℕ → Bool) → Marked 0 f (replicate rowLimit 0)
 marked-none f = record { size = omega (arith, length-replicate {A = ℕ} rowLimit 0); rows = λ r l. absurd (omega arith) }

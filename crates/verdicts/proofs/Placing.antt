@@ -1,19 +1,18 @@
 -- The places of a channel, from the bytes of the sets.
 use Prim.Native.Nat.{ℕ, zero, suc, _+_, _*_, _<_, _≤_}
 use native.Mathlib.Omega.{arith}
-use mathlib.Core.Bool.{Bool, true, false, _&&_}
-use mathlib.Core.Path.{_≡_, refl, sym, ap, ap₂, _∙_}
+use mathlib.Core.Bool.{Bool, false, _&&_}
+use mathlib.Core.Path.{_≡_, refl, ap}
 use mathlib.Core.Option.{Option, none, some}
 use lib.ListN.{length}
-use lib.Dec.{ltb, leb}
 use borrow.Author.Tests.{le-leb, lt-leb}
-use Rattle.program.specs.Test.{pick, any}
+use Rattle.program.specs.Test.{any}
 use Rattle.program.specs.Maybe.{has}
-use Rattle.program.specs.Program.{Program, syncAt}
-use Rattle.program.specs.Flow.{row, Table}
+use Rattle.program.specs.Program.{syncAt}
+use Rattle.program.specs.Flow.{row}
 use Rattle.program.specs.Walk.{sendPlace, receivePlace}
 use Rattle.format.specs.Limits.{rowLimit}
-use Rattle.format.specs.Text.{Bytes, byteAt}
+use Rattle.format.specs.Text.{Bytes}
 use Rattle.format.specs.Document.{member}
 use Rattle.calls.specs.Layout.{memberLimit, rowsSize, flowAt}
 use Rattle.store.specs.Rows.{storeProgram}
@@ -23,7 +22,7 @@ use Rattle.verdicts.specs.declared.places.Side.{Side}
 use Rattle.verdicts.specs.declared.places.Side.the-variants.{Sends, Receives}
 use Rattle.verdicts.specs.Marks.{on, Marked, meets}
 use Rattle.verdicts.specs.Places.{eventOn, place, placeOn}
-use Rattle.verdicts.proofs.Marking.{any-same}
+use Rattle.program.proofs.Test.{any-same}
 
 pub any-none : (n : ℕ) → any n (λ i. false) ≡ false
 unfolding any

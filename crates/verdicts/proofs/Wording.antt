@@ -1,19 +1,18 @@
 -- What the bytes find of the walks is what the definitions say, and the words follow from what is found at the two ends.
-use Prim.Native.Nat.{ℕ, zero, suc, _+_, _*_, _<_, _≤_}
+use Prim.Native.Nat.{ℕ, _+_, _*_, _<_, _≤_}
 use native.Mathlib.Omega.{arith}
 use native.Mathlib.Nat.{zero-add}
 use native.Mathlib.Decide.{decLt}
 use mathlib.Core.Bool.{Bool, true, false, not, _&&_, _||_}
-use mathlib.Core.List.{List, [], _∷_, map}
+use mathlib.Core.List.{[], _∷_, map}
 use mathlib.Core.Option.{Option, none, some}
 use mathlib.Core.Path.{_≡_, refl, sym, ap, ap₂, _∙_}
 use lib.ListN.{length}
 use lib.Dec.{ltb, eqb}
 use borrow.Author.Tests.{lt-ltb, le-ltb}
-use Rattle.program.specs.declared.Row.{Row}
 use Rattle.program.specs.Test.{pick, any}
 use Rattle.program.specs.Maybe.{has, _>>=_}
-use Rattle.program.specs.Program.{Program, rowAt, bindAt, bindOf, formAt, syncAt, forkAt}
+use Rattle.program.specs.Program.{Program, bindAt, bindOf, formAt, syncAt, forkAt}
 use Rattle.program.specs.Walk.{sendPlace, receivePlace}
 use Rattle.program.specs.Verdict.{reach, reached, leads, inARow, rivals, verdict}
 use Rattle.program.proofs.Decides.Closure.{closed-past}
@@ -32,7 +31,7 @@ use Rattle.verdicts.specs.Marks.{on, Marked, meets, threeMeet}
 use Rattle.verdicts.specs.Places.{place}
 use Rattle.verdicts.specs.Walks.{comesTo, aheadOf, leadsOn, forksOn, rivalsOn}
 use Rattle.verdicts.specs.Words.{EndsAre, wordIn}
-use Rattle.verdicts.proofs.Marking.{any-same}
+use Rattle.program.proofs.Test.{any-same}
 use Rattle.verdicts.proofs.Placing.{any-none}
 
 on-pick : (b : Bool) → ltb 0 (pick b 1 0) ≡ b

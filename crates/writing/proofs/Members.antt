@@ -1,6 +1,6 @@
 -- The members of a set from one of their bytes on, and their text.
 use Prim.Native.Nat.{ℕ, _+_, _<_, _≤_, max}
-use mathlib.Core.Bool.{Bool, true, false, _||_, So, or-false}
+use mathlib.Core.Bool.{Bool, _||_, So, or-false}
 use mathlib.Core.List.{List, [], _∷_, _++_, append-nil}
 use mathlib.Core.Path.{_≡_, refl, sym}
 use native.Mathlib.Numerals.{add-one}
@@ -11,15 +11,12 @@ use borrow.Author.Tests.{eq-eqb, ne-eqb, lt-ltb}
 use lib.ListN.{length, getD, drop, drop-of-length-le}
 use lib.Seq.{drop-cons}
 use Rattle.program.specs.Each.{collect}
+use Rattle.program.proofs.Test.{or-true}
 use Rattle.format.specs.Text.{Bytes, ascii, argument}
 use Rattle.format.specs.Print.{memberText, membersText, setText}
 use Rattle.format.specs.Read.{present}
 use Rattle.calls.specs.Layout.{membersFrom, withEntry}
 use Rattle.writing.specs.Texts.{entryText}
-
-or-true : (b : Bool) → b || true ≡ true
-or-true true = refl
-or-true false = refl
 
 module _ (flags : Bytes) (m : ℕ) (inside : m < length flags) where
   pub skip : getD flags m 0 ≡ 0 → membersFrom m (drop m flags) ≡ membersFrom (m + 1) (drop (m + 1) flags)

@@ -7,7 +7,8 @@ use Rattle.store.specs.Rows.{storeProgram}
 use Rattle.tables.specs.Tables.{storeFlow, storeComm}
 use Rattle.flow.specs.Rules.{sendTest}
 use Rattle.flow.specs.Sets.{Marks}
-use Rattle.flow.proofs.Members.{bool-byte, marks-none, marks-more}
+use Rattle.tables.proofs.Tables.{bool-byte}
+use Rattle.flow.proofs.Members.{marks-none, marks-more}
 use Rattle.flow.proofs.channels.passing_sends.Statement.{statement}
 use Rattle.flow.proofs.channels.passing_sends.Tie as tie
 

@@ -3,7 +3,7 @@ use mathlib.Core.Path.{sym, _∙_}
 use borrow.Author.Needs.{needs}
 use Rattle.program.specs.Maybe.{when}
 use Rattle.flow.specs.Rules.{asks}
-use Rattle.flow.proofs.Tests.{and-true}
+use Rattle.program.proofs.Test.{and-true}
 use Rattle.forms.proofs.Forms.{kinds, but, left-at, right-at, no-left, no-right}
 use Rattle.flow.proofs.rules.case_passes.Statement.{statement}
 use Rattle.flow.proofs.rules.case_passes.Tie as tie

@@ -6,7 +6,8 @@ use Rattle.store.specs.Rows.{storeProgram}
 use Rattle.tables.specs.Tables.{storeFlow}
 use Rattle.verdicts.specs.Marks.{Marked}
 use Rattle.verdicts.specs.Places.{eventOn}
-use Rattle.verdicts.proofs.Marking.{bool-byte, marked-none, marked-more}
+use Rattle.tables.proofs.Tables.{bool-byte}
+use Rattle.verdicts.proofs.Marking.{marked-none, marked-more}
 use borrow.Author.Needs.{needs}
 use Rattle.verdicts.proofs.places.events.Statement.{statement}
 use Rattle.verdicts.proofs.places.events.Tie as tie

@@ -6,7 +6,8 @@ use Rattle.store.specs.Rows.{storeProgram}
 use Rattle.tables.specs.Tables.{storeFlow}
 use Rattle.verdicts.specs.Marks.{Marked}
 use Rattle.verdicts.specs.Places.{placeOn}
-use Rattle.verdicts.proofs.Marking.{bool-byte, marked-none, marked-more, marked-same}
+use Rattle.tables.proofs.Tables.{bool-byte}
+use Rattle.verdicts.proofs.Marking.{marked-none, marked-more, marked-same}
 use Rattle.verdicts.proofs.Placing.{place-is}
 use borrow.Author.Needs.{needs}
 use Rattle.verdicts.proofs.places.places.Statement.{statement}

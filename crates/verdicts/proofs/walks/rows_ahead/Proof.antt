@@ -4,7 +4,8 @@ use native.Mathlib.Omega.{arith}
 use mathlib.Core.Path.{_≡_, _∙_}
 use Rattle.verdicts.specs.Marks.{Marked}
 use Rattle.verdicts.specs.Walks.{aheadOf}
-use Rattle.verdicts.proofs.Marking.{bool-byte, marked-none, marked-more}
+use Rattle.tables.proofs.Tables.{bool-byte}
+use Rattle.verdicts.proofs.Marking.{marked-none, marked-more}
 use borrow.Author.Needs.{needs}
 use Rattle.verdicts.proofs.walks.rows_ahead.Statement.{statement}
 use Rattle.verdicts.proofs.walks.rows_ahead.Tie as tie
