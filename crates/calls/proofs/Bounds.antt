@@ -14,7 +14,7 @@ use Rattle.program.specs.Program.{chanRow}
 use Rattle.program.specs.Flow.{keepsAt}
 use Rattle.program.proofs.Test.{Least, none-passes, smallest, least-is, and-left}
 use Rattle.program.proofs.Maybe.{Found, nothing, found, found-either, found-bind, found-map}
-use Rattle.program.proofs.Each.{Each, nil, _&_}
+use Rattle.program.specs.Each.{Each, nil, _&_}
 use Rattle.format.specs.declared.Reason.{Reason}
 use Rattle.format.specs.declared.Reason.the-variants.{NotALine, OutOfCount, WrongPointer, BoundTwice, OutOfScope, NotAllowed, StoreTooShort, StoreEmpty, StoreUnsound, FlowRuleFails}
 use Rattle.format.specs.declared.Refusal.{Refusal}

@@ -10,12 +10,12 @@ use lib.ListN.{length, take, drop, replicate, length-append, length-drop}
 use lib.Seq.{take-at, drop-at}
 use lib.Dec.{ltb}
 use borrow.Author.Tests.{lt-ltb, le-ltb, ltb-false, ltb-true}
-use Rattle.program.specs.Each.{Member}
+use Rattle.program.specs.Each.{Member, Each}
 use Rattle.program.specs.Program.{chanAt, chanRow}
 use Rattle.program.specs.FlowRule.{KeepsAll}
 use Rattle.program.specs.Run.{Path, made, Step, run}
 use Rattle.program.specs.History.{HistoryFits}
-use Rattle.program.proofs.Each.{Each, each-at}
+use Rattle.program.proofs.Each.{each-at}
 use Rattle.program.proofs.FlowRule.{keeps-iff}
 use Rattle.program.proofs.Test.{and-left, none-least}
 use Rattle.program.proofs.Sound.Histories.{claims-hold}

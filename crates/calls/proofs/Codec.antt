@@ -15,10 +15,10 @@ use lib.ListN.{length, getD, length-append}
 use lib.Seq.{drop-at}
 use lib.Dec.{ltb, eqb, lit≤}
 use borrow.Author.Tests.{ltb-true, lt-ltb, eqb-true, not-false}
-use Rattle.program.specs.Each.{here, every, collect}
+use Rattle.program.specs.Each.{here, every, collect, Each, nil, _&_}
 use Rattle.program.specs.Program.{Program}
 use Rattle.program.proofs.Test.{and-left, and-right, and-intro, eqb-same}
-use Rattle.program.proofs.Each.{Each, nil, _&_, every-elim, each-at, each-imp, each-left, each-right, each-append, each-unmap}
+use Rattle.program.proofs.Each.{every-elim, each-at, each-imp, each-left, each-right, each-append, each-unmap}
 use Rattle.format.specs.Limits.{rowLimit}
 use Rattle.format.specs.Text.{Bytes}
 use Rattle.format.specs.Document.{Claim, Document, Line, flow, comm, claim}

@@ -18,7 +18,8 @@ use Rattle.program.specs.FlowRule.{FlowRule, KeepsAll}
 use Rattle.program.specs.Walk.{CanShare, Holds, sendPlace, receivePlace}
 use Rattle.program.proofs.Test.{and-left, and-right, all-intro, least-is, Least, none-passes, smallest}
 use Rattle.program.proofs.Maybe.{when-intro}
-use Rattle.program.proofs.Each.{Each, _&_, each-imp, each-right}
+use Rattle.program.specs.Each.{Each, _&_}
+use Rattle.program.proofs.Each.{each-imp, each-right}
 use Rattle.program.proofs.WellFormed.{WellFormed}
 use Rattle.program.proofs.FlowRule.{rule-iff, when-iff, keeps-iff}
 use Rattle.program.proofs.Decides.Verdicts.{claim-iff}

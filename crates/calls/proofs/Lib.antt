@@ -5,4 +5,3 @@ pub mod Judging
 pub mod Calls
 pub mod Bounds
 pub mod Demands
-pub mod Examples

@@ -7,12 +7,11 @@ use mathlib.Core.Option.{some}
 use mathlib.Core.Path.{_≡_, sym, _∙_}
 use mathlib.Core.Logic.{_↔_}
 use lib.ListN.{length, take, drop, replicate}
-use Rattle.program.specs.Each.{Member}
+use Rattle.program.specs.Each.{Member, Each}
 use Rattle.program.specs.Program.{chanAt, chanRow}
 use Rattle.program.specs.FlowRule.{KeepsAll}
 use Rattle.program.specs.Run.{Path, made, Step, run}
 use Rattle.program.specs.History.{HistoryFits}
-use Rattle.program.proofs.Each.{Each}
 use Rattle.format.specs.declared.Refusal.{Refusal}
 use Rattle.format.specs.Limits.{byteLimit}
 use Rattle.format.specs.Text.{Bytes}

@@ -5,7 +5,7 @@ use mathlib.Core.List.{List, [], _∷_}
 use mathlib.Core.Path.{_≡_, refl}
 use lib.ListN.{length, take, length-take}
 use lib.Dec.{ltb}
-use Rattle.program.proofs.Each.{Each, nil, _&_}
+use Rattle.program.specs.Each.{Each, nil, _&_}
 use Rattle.format.specs.Limits.{rowLimit}
 use Rattle.format.specs.Text.{Bytes}
 use Rattle.format.specs.Refusals.{Result, refused, accepted}

@@ -13,8 +13,8 @@ use lib.Dec.{ltb, eqb}
 use borrow.Author.Tests.{eqb-true, eq-eqb, ne-eqb, ltb-true, ltb-false, le-ltb, not-false, not-true}
 use Rattle.program.specs.declared.Row.{Row}
 use Rattle.program.specs.Test.{pick}
-use Rattle.program.specs.Each.{every, collect}
-use Rattle.program.proofs.Each.{Each, nil, _&_, each-imp, each-both, each-append, each-map, each-all, every-elim}
+use Rattle.program.specs.Each.{every, collect, Each, nil, _&_}
+use Rattle.program.proofs.Each.{each-imp, each-both, each-append, each-map, each-all, every-elim}
 use Rattle.program.proofs.Maybe.{Found, nothing, found, found-at}
 use Rattle.program.proofs.Test.{and-left, and-right, and-intro}
 use Rattle.format.specs.declared.Reason.{Reason}

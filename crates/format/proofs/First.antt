@@ -7,7 +7,7 @@ use mathlib.Core.Path.{_≡_, refl, ap}
 use native.Mathlib.Omega.{arith}
 use native.Mathlib.Nat.{add-zero}
 use lib.ListN.{length}
-use Rattle.program.proofs.Each.{Each, nil, _&_}
+use Rattle.program.specs.Each.{Each, nil, _&_}
 use Rattle.format.specs.Structure.{firstFailing}
 
 module _ {A : Type 0} (ok : A → Bool) where

@@ -10,8 +10,7 @@ use lib.ListN.{length}
 use Rattle.program.specs.declared.Word.{Word}
 use Rattle.program.specs.declared.Word.the-variants.{OneShot, OneToOne, FanOut, FanIn, Many}
 use Rattle.program.specs.Maybe.{_>>=_}
-use Rattle.program.specs.Each.{Member, here, there, every}
-use Rattle.program.proofs.Each.{Each, nil, _&_}
+use Rattle.program.specs.Each.{Member, here, there, every, Each, nil, _&_}
 use Rattle.program.proofs.Maybe.{Found, found, found-bind}
 use Rattle.format.specs.declared.Section.{Section}
 use Rattle.format.specs.declared.Section.the-variants.{Rows, Flows, Comms, Claims}

@@ -12,8 +12,7 @@ use lib.Seq.{getD-drop}
 use lib.Dec.{ltb}
 use borrow.Author.Tests.{lt-ltb, le-ltb, ne-eqb}
 use Rattle.program.specs.Maybe.{_>>=_}
-use Rattle.program.specs.Each.{every}
-use Rattle.program.proofs.Each.{Each, nil, _&_}
+use Rattle.program.specs.Each.{every, Each, nil, _&_}
 use Rattle.program.proofs.Maybe.{Found, nothing, found, found-bind, found-map}
 use Rattle.format.specs.Text.{Bytes, byteAt, place, digits, digitOf, digitAt, numberOf, readNumber, expect, argument, readArgument, arguments, readArguments}
 use Rattle.format.proofs.Stands.{Stands, stands-nil, stands-cons, stands-append, stands-left, stands-right, stands-tail, byte-of, expect-found, expect-stands, clash}

@@ -5,8 +5,8 @@ use mathlib.Core.List.{List, [], _∷_, _++_, map}
 use mathlib.Core.Path.{_≡_, refl, sym}
 use mathlib.Core.Logic.{_↔_}
 use lib.Dec.{ltb}
-use Rattle.program.specs.Each.{every}
-use Rattle.program.proofs.Each.{Each, nil, _&_, every-elim}
+use Rattle.program.specs.Each.{every, Each, nil, _&_}
+use Rattle.program.proofs.Each.{every-elim}
 use Rattle.program.proofs.Test.{and-left, and-right, and-intro}
 use Rattle.format.specs.Read.{present, rising}
 

@@ -12,8 +12,8 @@ use Rattle.program.specs.declared.Bind.{Bind}
 use Rattle.program.specs.declared.Form.{Form}
 use Rattle.program.specs.declared.Form.the-variants.{Chan, Send, Recv, Pair, Left, Right, Fun, Spawn, Sync, First, Second, Case, Apply}
 use Rattle.program.specs.Maybe.{_>>=_}
-use Rattle.program.specs.Each.{Member, here, there, every}
-use Rattle.program.proofs.Each.{Each, nil, _&_, each-imp, each-left, each-right}
+use Rattle.program.specs.Each.{Member, here, there, every, Each, nil, _&_}
+use Rattle.program.proofs.Each.{each-imp, each-left, each-right}
 use Rattle.program.proofs.Maybe.{Found, nothing, found, found-bind, found-map}
 use Rattle.format.specs.Text.{Bytes, ascii, digitOf, argument, arguments, expect, oneOf, readArgument, readArguments}
 use Rattle.format.specs.Forms.{formCode, arity, formOf}

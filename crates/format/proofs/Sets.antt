@@ -7,8 +7,7 @@ use mathlib.Core.Path.{_≡_, refl}
 use native.Mathlib.Omega.{arith}
 use lib.ListN.{length, length-append}
 use Rattle.program.specs.Maybe.{_>>=_}
-use Rattle.program.specs.Each.{every}
-use Rattle.program.proofs.Each.{Each, nil, _&_}
+use Rattle.program.specs.Each.{every, Each, nil, _&_}
 use Rattle.program.proofs.Maybe.{Found, nothing, found, found-bind, found-map}
 use Rattle.format.specs.Text.{Bytes, ascii, byteAt, digits, digitOf, place, argument, expect, readNumber, readArgument}
 use Rattle.format.specs.Print.{memberText, membersText, setText}

@@ -14,8 +14,8 @@ use lib.ListN.{length, getD, drop, length-append, length-drop, List·getD-eq-def
 use lib.Seq.{getD-drop, drop-drop, drop-cons, drop-append-seam, drop-length}
 use lib.Dec.{eqb, ltb}
 use borrow.Author.Tests.{eqb-true, eq-eqb, ne-eqb, ltb-true, eqb-false, not-true}
-use Rattle.program.specs.Each.{Member, here, there, every}
-use Rattle.program.proofs.Each.{Each, _&_, each-at, every-elim}
+use Rattle.program.specs.Each.{Member, here, there, every, Each, _&_}
+use Rattle.program.proofs.Each.{each-at, every-elim}
 use Rattle.program.proofs.Maybe.{Found, nothing, found, found-map}
 use Rattle.program.proofs.Test.{and-left, and-right, or-cases}
 use Rattle.format.specs.Text.{Bytes, ascii, byteAt, expect, oneOf}

@@ -1,14 +1,9 @@
--- What holds of each element of a list, and of every two.
+-- Laws of what holds of each element of a list, and of every two.
 use mathlib.Core.Bool.{Bool, true, _&&_, So}
 use mathlib.Core.List.{List, [], _∷_, _++_, map}
 use mathlib.Core.Path.{_≡_, refl}
-use Rattle.program.specs.Each.{Member, here, there, every}
+use Rattle.program.specs.Each.{Member, here, there, Each, nil, _&_, every}
 use Rattle.program.proofs.Test.{and-left, and-right}
-
-infixr 40 _&_
-pub data Each {A : Type 0} (P : A → Type 0) : List A → Type 0 where
-  nil : Each P []
-  _&_ : {x : A} {xs : List A} → P x → Each P xs → Each P (x ∷ xs)
 
 module _ {A : Type 0} where
   -- R holds of every two elements, of an element and itself too

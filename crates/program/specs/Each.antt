@@ -9,6 +9,12 @@ pub data Member {A : Type 0} (a : A) : List A → Type 0 where
   here : {x : A} {xs : List A} → a ≡ x → Member a (x ∷ xs)
   there : {x : A} {xs : List A} → Member a xs → Member a (x ∷ xs)
 
+-- P holds of each element
+infixr 40 _&_
+pub data Each {A : Type 0} (P : A → Type 0) : List A → Type 0 where
+  nil : Each P []
+  _&_ : {x : A} {xs : List A} → P x → Each P xs → Each P (x ∷ xs)
+
 module _ {A : Type 0} where
   -- the test holds of each element
   unfoldable pub every : (A → Bool) → List A → Bool

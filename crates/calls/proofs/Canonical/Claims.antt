@@ -11,8 +11,8 @@ use lib.Dec.{ltb, eqb, lit<}
 use borrow.Author.Tests.{eqb-true, eq-eqb, ne-eqb}
 use Rattle.program.specs.declared.Word.{Word}
 use Rattle.program.specs.declared.Word.the-variants.{OneShot, OneToOne, FanOut, FanIn, Many}
-use Rattle.program.specs.Each.{every}
-use Rattle.program.proofs.Each.{Each, nil, _&_, each-imp, each-map}
+use Rattle.program.specs.Each.{every, Each, nil, _&_}
+use Rattle.program.proofs.Each.{each-imp, each-map}
 use Rattle.format.specs.Limits.{rowLimit}
 use Rattle.format.specs.Text.{Bytes}
 use Rattle.format.specs.Document.{Claim, claim}

@@ -10,9 +10,9 @@ use lib.ListN.{length, getD, take, drop, replicate, take-append-drop}
 use lib.Seq.{take-at, drop-at, take-take, drop-drop, take-nil, take-add}
 use lib.Dec.{ltb, eqb}
 use borrow.Author.Tests.{ltb-true, lt-ltb, eqb-true}
-use Rattle.program.specs.Each.{every, collect}
+use Rattle.program.specs.Each.{every, collect, Each, nil, _&_}
 use Rattle.program.proofs.Test.{and-left, and-right, and-intro}
-use Rattle.program.proofs.Each.{Each, nil, _&_, every-elim, each-imp, each-map, each-append, each-left, each-right}
+use Rattle.program.proofs.Each.{every-elim, each-imp, each-map, each-append, each-left, each-right}
 use Rattle.format.specs.Limits.{rowLimit}
 use Rattle.format.specs.Text.{Bytes}
 use Rattle.format.specs.Document.{Line}

@@ -10,9 +10,9 @@ use lib.ListN.{length, getD, take, drop, length-take, length-drop}
 use lib.Dec.{ltb, eqb, lit<}
 use borrow.Author.Tests.{eqb-true, eqb-false, eq-eqb, ne-eqb}
 use Rattle.program.specs.Test.{pick}
-use Rattle.program.specs.Each.{every, elem}
+use Rattle.program.specs.Each.{every, elem, Each, nil, _&_}
 use Rattle.program.proofs.Test.{and-intro}
-use Rattle.program.proofs.Each.{Each, nil, _&_, each-imp, each-both, each-map}
+use Rattle.program.proofs.Each.{each-imp, each-both, each-map}
 use Rattle.format.specs.Limits.{rowLimit}
 use Rattle.format.specs.Text.{Bytes}
 use Rattle.format.specs.Document.{Entry, flow, comm, membersAt}

@@ -10,7 +10,8 @@ use borrow.Author.Tests.{eqb-true}
 use Rattle.program.specs.declared.Word.{Word}
 use Rattle.program.specs.declared.Word.the-variants.{OneShot, OneToOne, FanOut, FanIn, Many}
 use Rattle.program.specs.Test.{pick}
-use Rattle.program.proofs.Each.{Each, each-imp}
+use Rattle.program.specs.Each.{Each}
+use Rattle.program.proofs.Each.{each-imp}
 use Rattle.format.specs.Document.{Claim}
 use Rattle.format.specs.Read.{rising}
 use Rattle.calls.specs.Layout.{counting, wordCode, wordOf, claimCode, decodeClaims}

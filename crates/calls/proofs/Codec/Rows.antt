@@ -12,10 +12,10 @@ use Rattle.program.specs.declared.Row.{Row}
 use Rattle.program.specs.declared.Bind.{Bind}
 use Rattle.program.specs.declared.Form.{Form}
 use Rattle.program.specs.declared.Form.the-variants.{Chan, Send, Recv, Pair, Left, Right, Fun, Spawn, Sync, First, Second, Case, Apply}
-use Rattle.program.specs.Each.{here, collect}
+use Rattle.program.specs.Each.{here, collect, Each, nil, _&_}
 use Rattle.program.specs.Program.{Program}
 use Rattle.program.proofs.Test.{and-left, and-right}
-use Rattle.program.proofs.Each.{Each, nil, _&_, each-at, each-append, each-left, each-right}
+use Rattle.program.proofs.Each.{each-at, each-append, each-left, each-right}
 use Rattle.format.specs.Text.{Bytes}
 use Rattle.format.specs.Forms.{formCode, formOf}
 use Rattle.format.specs.Print.{formNumbers, rowLines}

@@ -10,9 +10,9 @@ use lib.Seq.{take-at, drop-at}
 use lib.Dec.{eqb, lit<}
 use borrow.Author.Tests.{eqb-true}
 use Rattle.program.specs.Test.{pick}
-use Rattle.program.specs.Each.{every, collect, elem}
+use Rattle.program.specs.Each.{every, collect, elem, Each, nil, _&_}
 use Rattle.program.proofs.Test.{and-left, and-right}
-use Rattle.program.proofs.Each.{Each, nil, _&_, every-elim, each-imp, each-both, each-append}
+use Rattle.program.proofs.Each.{every-elim, each-imp, each-both, each-append}
 use Rattle.format.specs.Limits.{rowLimit}
 use Rattle.format.specs.Text.{Bytes}
 use Rattle.format.specs.Document.{Entry, membersAt}

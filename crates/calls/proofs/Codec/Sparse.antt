@@ -10,9 +10,9 @@ use lib.ListN.{length}
 use lib.Dec.{ltb, eqb}
 use borrow.Author.Tests.{ltb-true, eq-eqb, ne-eqb}
 use Rattle.program.specs.Test.{pick}
-use Rattle.program.specs.Each.{every}
+use Rattle.program.specs.Each.{every, Each, nil, _&_}
 use Rattle.program.proofs.Test.{and-left, and-right}
-use Rattle.program.proofs.Each.{Each, nil, _&_, every-elim, each-imp, each-both, each-unmap}
+use Rattle.program.proofs.Each.{every-elim, each-imp, each-both, each-unmap}
 use Rattle.format.specs.Read.{rising}
 use Rattle.calls.specs.Layout.{counting}
 

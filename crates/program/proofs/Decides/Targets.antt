@@ -15,7 +15,8 @@ use Rattle.program.specs.Maybe.{has}
 use Rattle.program.specs.Program.{Program, bindAt, formAt, funAt, forkAt, caseOf, applyOf, rowsOf, pointers}
 use Rattle.program.specs.Test.{any}
 use Rattle.program.specs.Walk.{someCalled, toRest, toChild, toCalled, toCaller, edge}
-use Rattle.program.proofs.Each.{Each, nil, _&_, each-imp, each-left}
+use Rattle.program.specs.Each.{Each, nil, _&_}
+use Rattle.program.proofs.Each.{each-imp, each-left}
 use Rattle.program.proofs.Maybe.{Found, found, found-self, found-bind, found-at, found-map, has-elim}
 use Rattle.program.proofs.Sound.Forms.{spawn-form, fun-form, case-form}
 use Rattle.program.proofs.Sound.Shape.{bind-bound, row-of, rest-rises, rests-rise}

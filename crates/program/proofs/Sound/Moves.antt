@@ -15,7 +15,8 @@ use Rattle.program.specs.Maybe.{_>>=_, when}
 use Rattle.program.specs.Program.{Program, rowAt, bindAt, nameOf, chanAt, forkAt, pairAt, leftAt, rightAt, funAt, resultName}
 use Rattle.program.specs.Run.{next, spawn, Path, made, Value, unit, channel, closure, Env, extend, lookup, closureAt, Return, State, Move, proceed, enter, start, formMoves, resultMoves, moves}
 use Rattle.program.specs.Walk.{plain}
-use Rattle.program.proofs.Each.{Each, nil, _&_, EachTwo}
+use Rattle.program.specs.Each.{Each, nil, _&_}
+use Rattle.program.proofs.Each.{EachTwo}
 use Rattle.program.proofs.Maybe.{Found, nothing, found, found-self, found-bind, found-both, found-either, found-when}
 use Rattle.program.proofs.Sound.Edges.{Calls, form-at, edge-child, calls-left, calls-right, calls-body}
 use Rattle.program.proofs.Sound.Result.{by-row, result-of-result}

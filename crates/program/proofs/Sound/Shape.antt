@@ -11,10 +11,10 @@ use lib.Dec.{eqb, ltb}
 use borrow.Author.Tests.{eq-eqb, ltb-true}
 use Rattle.program.specs.declared.Row.{Row}
 use Rattle.program.specs.declared.Bind.{Bind}
-use Rattle.program.specs.Each.{Member, here, there, collect, elem}
+use Rattle.program.specs.Each.{Member, here, there, collect, elem, Each, _&_}
 use Rattle.program.specs.Maybe.{_>>=_}
 use Rattle.program.specs.Program.{Program, rowAt, bindOf, bindAt, spawnOf, chanOf, chanAt, forkAt, rowsOf, pointers, binders}
-use Rattle.program.proofs.Each.{Each, _&_, every-elim, each-right}
+use Rattle.program.proofs.Each.{every-elim, each-right}
 use Rattle.program.proofs.Maybe.{Found, found, found-self, found-bind, found-at, found-map}
 use Rattle.program.proofs.Sound.Forms.{chan-form, spawn-form}
 use Rattle.program.proofs.Test.{and-left, and-right, or-left, or-right, or-cases, and-intro, all-elim, not-elim, not-intro}

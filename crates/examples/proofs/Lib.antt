@@ -1,0 +1,2 @@
+-- The examples of document 01, by computation.
+pub mod Marked
