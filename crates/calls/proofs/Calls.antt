@@ -50,7 +50,8 @@ load-long file store l = rw (le-ltb (length store) storeSize l, load)
 
 -- ---- refused calls
 
-pub load-refused : (file store : Bytes) (r : Refusal) → load file store .answer ≡ LoadAnswer.Refused r → storeSize ≤ length store → load file store .bytes ≡ replicate storeSize 0 ++ drop storeSize store
+pub load-refused : (file store : Bytes) (r : Refusal) → load file store .answer ≡ LoadAnswer.Refused r → storeSize ≤ length store
+    → load file store .bytes ≡ replicate storeSize 0 ++ drop storeSize store
 load-refused file store r e l = rw (load-long file store l) (go (check file) (ap (λ (o : Outcome LoadAnswer). o .answer) (sym (load-long file store l)) ∙ e))
   where
     go : (x : Result Document) → loaded store x .answer ≡ LoadAnswer.Refused r → loaded store x .bytes ≡ replicate storeSize 0 ++ drop storeSize store
@@ -89,7 +90,8 @@ load-takes file store l c = (
   λ (d, e, w, s, q). ap (λ (o : Outcome LoadAnswer). o .answer) (load-long file store l) ∙ rw (check-iff file d .1 (e, w, s), q),
 )
   where
-    go : (x : Result Document) → check file ≡ x → loaded store x .answer ≡ LoadAnswer.Loaded c → (d : Document) × (file ≡ documentText d) × So (wellFormed d) × (length file ≤ byteLimit) × (c ≡ counts d)
+    go : (x : Result Document) → check file ≡ x → loaded store x .answer ≡ LoadAnswer.Loaded c → (d : Document) × (file ≡ documentText d) × So (wellFormed d) × (length file ≤ byteLimit)
+        × (c ≡ counts d)
     go (refused r) q h = let z : _≡_ {A = ℕ} 0 1 = cc in absurd (omega arith)
     go (accepted d) q h = let (e, w, s) = check-iff file d .0 q in (d, e, w, s, let k : c ≡ counts d = cc in k)
 
@@ -162,7 +164,8 @@ sound-iff fixed = (
 
 -- ---- write and load
 
-written-accepted : (out text : Bytes) → length text ≤ length out → (written out (accepted text) .answer ≡ WriteAnswer.Written (length text)) × (written out (accepted text) .bytes ≡ text ++ drop (length text) out)
+written-accepted : (out text : Bytes) → length text ≤ length out → (written out (accepted text) .answer ≡ WriteAnswer.Written (length text))
+    × (written out (accepted text) .bytes ≡ text ++ drop (length text) out)
 unfolding written
 written-accepted out text l = rw (le-ltb (length out) (length text) l, written) (refl, refl)
 
@@ -203,7 +206,8 @@ load-write store out other n e s l = from-opened (opened store) refl
   where
     from-opened : (x : Result Document) → opened store ≡ x → load (take n (write store out .bytes)) other .bytes ≡ take storeSize store ++ drop storeSize other
     from-opened (refused r) q =
-        let h : written out (andThen (refused r) λ d. accepted (documentText d)) .answer ≡ WriteAnswer.Written n = ap (λ (x : Result Document). written out (andThen x λ d. accepted (documentText d)) .answer) (sym q) ∙ e in
+        let h : written out (andThen (refused r) λ d. accepted (documentText d)) .answer
+        ≡ WriteAnswer.Written n = ap (λ (x : Result Document). written out (andThen x λ d. accepted (documentText d)) .answer) (sym q) ∙ e in
         let z : _≡_ {A = ℕ} 0 1 = cc in
         absurd (omega arith)
     from-opened (accepted d) q =
@@ -257,5 +261,6 @@ sound file store c n e a =
       q,
       w,
       λ x member name chan steps maker.
-          claims-hold (d .rows) (flowTable d) (commTable d) (rows-well d w .0) (keeps-iff (d .rows) (flowTable d) (commTable d) .1 keeps) (x .word) name (x .channel) chan (each-at claims member) steps maker,
+          claims-hold (d .rows) (flowTable d) (commTable d) (rows-well d w .0) (keeps-iff (d .rows) (flowTable d) (commTable d) .1 keeps) (x .word) name (x .channel) chan
+          (each-at claims member) steps maker,
     )

@@ -33,7 +33,8 @@ use Rattle.calls.proofs.Judging.{word-iff}
 use Rattle.calls.proofs.Calls as the
 
 -- Demand 1: "a load refused for its file leaves the store empty, and every other refused call alters no lent byte"
-pub load-refused : (file store : Bytes) (r : Refusal) → load file store .answer ≡ LoadAnswer.Refused r → storeSize ≤ length store → load file store .bytes ≡ replicate storeSize 0 ++ drop storeSize store
+pub load-refused : (file store : Bytes) (r : Refusal) → load file store .answer ≡ LoadAnswer.Refused r → storeSize ≤ length store
+    → load file store .bytes ≡ replicate storeSize 0 ++ drop storeSize store
 load-refused = the.load-refused
 
 pub load-too-short : (file store : Bytes) → length store < storeSize → load file store .bytes ≡ store

@@ -85,7 +85,8 @@ judge-exact d w = rules (failingRow d) (least-is (length (d .rows)) (λ r. not (
     claims : KeepsAll (d .rows) (flowTable d) (commTable d) → (o : Option ℕ) → First (λ k. wordHolds d (reaches d) (k .channel) (k .word)) (claimLine d) (d .claims) o → Judged d (judgeClaims d o)
     claims h none (all-pass k) = unfold judgeClaims in holds h (each-imp (λ c t. word-iff d w (c .channel) (c .word) .0 t) k)
     claims h (some line) (fails before k after e passed failed m) =
-        unfold judgeClaims in claim-fails h before k after e (each-imp (λ c t. word-iff d w (c .channel) (c .word) .0 t) passed) (λ t. false≢true (sym failed ∙ word-iff d w (k .channel) (k .word) .1 t)) m
+        unfold judgeClaims in claim-fails h before k after e (each-imp (λ c t. word-iff d w (c .channel) (c .word) .0 t) passed)
+        (λ t. false≢true (sym failed ∙ word-iff d w (k .channel) (k .word) .1 t)) m
 
     rules : (o : Option ℕ) → Least (length (d .rows)) (λ r. not (keepsAt (d .rows) (flowTable d) (commTable d) r)) o
         → Judged d (elim o as (λ o. Result ℕ) [ some r ↦ refused (refusal FlowRuleFails (rowLine r)) | none ↦ judgeClaims d (failingClaim d (reaches d)) ])
@@ -96,7 +97,8 @@ judge-exact d w = rules (failingRow d) (least-is (length (d .rows)) (λ r. not (
     rules (some r) (smallest l t h) = rule-fails r l (λ k. false≢true (sym (not-true _ t) ∙ row-iff d r .1 k)) (λ j m. kept j (h j m))
 
 -- judge accepts exactly if every row's flow rule and every claim hold
-pub accepts-iff : (d : Document) → So (wellFormed d) → (n : ℕ) → (judgeDocument d ≡ accepted n) ↔ (KeepsAll (d .rows) (flowTable d) (commTable d) × Each (ClaimHolds d) (d .claims) × (n ≡ length (d .claims)))
+pub accepts-iff : (d : Document) → So (wellFormed d) → (n : ℕ) → (judgeDocument d ≡ accepted n)
+    ↔ (KeepsAll (d .rows) (flowTable d) (commTable d) × Each (ClaimHolds d) (d .claims) × (n ≡ length (d .claims)))
 accepts-iff d w n = (λ e. there (judgeDocument d) (judge-exact d w) e, λ (h, k, e). back h k e (judgeDocument d) (judge-exact d w))
   where
     there : (r : Result ℕ) → Judged d r → r ≡ accepted n → KeepsAll (d .rows) (flowTable d) (commTable d) × Each (ClaimHolds d) (d .claims) × (n ≡ length (d .claims))

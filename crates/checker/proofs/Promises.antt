@@ -65,7 +65,8 @@ module _ (store out : Bytes) {answer : WriteAnswer} {left : Bytes} (writes : Lea
   pub write-refused : (r : Refusal) → answer ≡ WriteAnswer.Refused r → left ≡ out
   write-refused r e = writes .bytes-are ∙ definitions.write-refused store out r (sym (writes .answer-is) ∙ e)
 
-  pub load-write : (other : Bytes) (n : ℕ) {loaded : LoadAnswer} {after : Bytes} → Leaves (load (take n left) other) loaded after → answer ≡ WriteAnswer.Written n → n ≤ byteLimit → storeSize ≤ length other
+  pub load-write : (other : Bytes) (n : ℕ) {loaded : LoadAnswer} {after : Bytes} → Leaves (load (take n left) other) loaded after → answer ≡ WriteAnswer.Written n → n ≤ byteLimit
+      → storeSize ≤ length other
       → after ≡ take storeSize store ++ drop storeSize other
   load-write other n loads e l m = loads .bytes-are ∙ rw (writes .bytes-are) (definitions.load-write store out other n (sym (writes .answer-is) ∙ e) l m)
 
@@ -75,6 +76,7 @@ pub judge-accepts : (store : Bytes) {answer : JudgeAnswer} → answer ≡ judge 
 judge-accepts store judges d o n = rw judges (definitions.judge-accepts store d o n)
 
 -- a verdict's words; that each is exact is `word-exact` of calls: Demands
-pub verdict-words : (store : Bytes) (c : ℕ) {answer : VerdictAnswer} → answer ≡ verdict store c → (d : Document) → opened store ≡ accepted d → So (chanRow (d .rows) c) → KeepsAll (d .rows) (flowTable d) (commTable d)
+pub verdict-words : (store : Bytes) (c : ℕ) {answer : VerdictAnswer} → answer ≡ verdict store c → (d : Document) → opened store ≡ accepted d → So (chanRow (d .rows) c)
+    → KeepsAll (d .rows) (flowTable d) (commTable d)
     → answer ≡ record { status = VerdictStatus.Given; words = map (wordHolds d (reaches d) c) verdictWords }
 verdict-words store c gives d o r k = gives ∙ definitions.verdict-words store d c o r k

@@ -77,12 +77,17 @@ unfolding Calls.load Calls.loaded Calls.counts Calls.refilled Calls.judge Calls.
     Answers.loadAnswer Answers.judgeAnswer Answers.refusalAnswer Refusals.number
     Check.check Check.checkAny Check.checkStructure
     Read.readFile Read.readLines Read.readLine Read.readContent Read.readRow Read.readBind Read.readResult Read.readForm Read.formWords Read.rowWords Read.lineWords Read.claimWords
-    Read.readMembers Read.readFirst Read.readSet Read.present Read.outOfOrder Read.rowNumbers Read.setRows Read.lineNumbers Read.aboveLimit Read.outOfCount Read.rising Read.notRising Read.lineFault Read.add Read.noLines
-    Text.ascii Text.readNumber Text.digitAt Text.digitOf Text.expect Text.oneOf Text.readArgument Text.readArguments Print.header Print.formNumbers Print.linesOf Print.rowLines Forms.arity Forms.formOf Forms.formCode
-    Structure.structureFault Structure.pointerFault Structure.wrongPointers Structure.binderFault Structure.boundEarlier Structure.scopeLine Structure.notAllowed Structure.firstFailing Structure.flowAllowed Structure.commAllowed Structure.claimAllowed Structure.memberAllowed Structure.flowLine Structure.commLine Structure.claimLine
+    Read.readMembers Read.readFirst Read.readSet Read.present Read.outOfOrder Read.rowNumbers Read.setRows Read.lineNumbers Read.aboveLimit Read.outOfCount Read.rising
+    Read.notRising Read.lineFault Read.add Read.noLines
+    Text.ascii Text.readNumber Text.digitAt Text.digitOf Text.expect Text.oneOf Text.readArgument Text.readArguments Print.header Print.formNumbers Print.linesOf
+    Print.rowLines Forms.arity Forms.formOf Forms.formCode
+    Structure.structureFault Structure.pointerFault Structure.wrongPointers Structure.binderFault Structure.boundEarlier Structure.scopeLine Structure.notAllowed
+    Structure.firstFailing Structure.flowAllowed Structure.commAllowed Structure.claimAllowed Structure.memberAllowed Structure.flowLine Structure.commLine
+    Structure.claimLine
     Scope.scopeFault Scope.rowFault Scope.useFault
     WellFormed.wellFormed WellFormed.orderly WellFormed.entriesRise
-    Layout.encode Layout.decode Layout.same Layout.counting Layout.padded Layout.rowBytes Layout.flagsOf Layout.setsBytes Layout.wordCode Layout.claimCode Layout.rowOf Layout.decodeRows Layout.membersFrom Layout.withEntry Layout.decodeSets Layout.wordOf Layout.decodeClaims
+    Layout.encode Layout.decode Layout.same Layout.counting Layout.padded Layout.rowBytes Layout.flagsOf Layout.setsBytes Layout.wordCode Layout.claimCode Layout.rowOf
+    Layout.decodeRows Layout.membersFrom Layout.withEntry Layout.decodeSets Layout.wordOf Layout.decodeClaims
     Judging.flowTable Judging.commTable Judging.wordHolds Judging.reaches Judging.failingRow Judging.failingClaim Judging.after10 Judging.judgeClaims Judging.judgeDocument
     Document.tableOf Document.membersAt Document.member
     Flow.keepsAt Flow.keepsForm Flow.sendRule Flow.recvRule Flow.lies Flow.forEach Flow.forEachChan
@@ -90,7 +95,8 @@ unfolding Calls.load Calls.loaded Calls.counts Calls.refilled Calls.judge Calls.
     Closure.cell Closure.table Closure.join Closure.through Closure.closure Closure.grid Closure.closed
     Verdict.reach Verdict.reached Verdict.leads Verdict.inARow Verdict.rivals Verdict.verdict
     Test.least Test.all Test.any Each.every Each.collect Each.elem Maybe._>>=_ Maybe._<|>_ Maybe.has Maybe.when
-    Program.rowAt Program.bindAt Program.bindOf Program.formAt Program.chanAt Program.sendAt Program.recvAt Program.pairAt Program.leftAt Program.rightAt Program.funAt Program.syncAt Program.forkAt Program.pointers Program.binders Program.valueRow Program.chanRow Program.resultName Program.resultRow Program.resultFrom Program.nameOf
+    Program.rowAt Program.bindAt Program.bindOf Program.formAt Program.chanAt Program.sendAt Program.recvAt Program.pairAt Program.leftAt Program.rightAt Program.funAt
+    Program.syncAt Program.forkAt Program.pointers Program.binders Program.valueRow Program.chanRow Program.resultName Program.resultRow Program.resultFrom Program.nameOf
 tried text =
     let o = Calls.load text (replicate Layout.storeSize 7) in
     Answers.loadAnswer (o .answer) ∷ Answers.judgeAnswer (Calls.judge (o .bytes)) ∷ []

@@ -31,9 +31,12 @@ answer (accepted d) = []
 checked : String → List ℕ
 unfolding answer Check.check Check.checkAny Check.checkStructure
     Read.readFile Read.readLines Read.readLine Read.readContent Read.readRow Read.readBind Read.readResult Read.readForm Read.formWords Read.rowWords Read.lineWords Read.claimWords
-    Read.readMembers Read.readFirst Read.readSet Read.present Read.outOfOrder Read.rowNumbers Read.setRows Read.lineNumbers Read.aboveLimit Read.outOfCount Read.rising Read.notRising Read.lineFault Read.add Read.noLines
+    Read.readMembers Read.readFirst Read.readSet Read.present Read.outOfOrder Read.rowNumbers Read.setRows Read.lineNumbers Read.aboveLimit Read.outOfCount Read.rising
+    Read.notRising Read.lineFault Read.add Read.noLines
     Text.ascii Text.readNumber Text.digitAt Text.digitOf Text.expect Text.oneOf Text.readArgument Text.readArguments Print.header Print.formNumbers Forms.arity Forms.formOf
-    Structure.structureFault Structure.pointerFault Structure.wrongPointers Structure.binderFault Structure.boundEarlier Structure.scopeLine Structure.notAllowed Structure.firstFailing Structure.flowAllowed Structure.commAllowed Structure.claimAllowed Structure.memberAllowed Structure.flowLine Structure.commLine Structure.claimLine
+    Structure.structureFault Structure.pointerFault Structure.wrongPointers Structure.binderFault Structure.boundEarlier Structure.scopeLine Structure.notAllowed
+    Structure.firstFailing Structure.flowAllowed Structure.commAllowed Structure.claimAllowed Structure.memberAllowed Structure.flowLine Structure.commLine
+    Structure.claimLine
     Scope.scopeFault Scope.rowFault Scope.useFault
     Test.least Each.every Each.collect Each.elem Maybe._>>=_ Maybe._<|>_ Maybe.has
     Program.rowAt Program.bindAt Program.bindOf Program.formAt Program.chanAt Program.pointers Program.binders Program.valueRow Program.chanRow

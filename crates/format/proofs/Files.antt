@@ -181,7 +181,8 @@ unfolding linesOf
 lines-readable d p =
     each-imp (λ l h. line-readable l (h .0) (not-true _ (h .1)))
     (each-both
-    (each-append (row-lines-shaped 0 (d .rows)) (each-append (each-map flow (entries-shaped (d .flows) (p .flows))) (each-append (each-map comm (entries-shaped (d .comms) (p .comms))) (each-map claim (each-all (d .claims) λ c. tt)))))
+    (each-append (row-lines-shaped 0 (d .rows)) (each-append (each-map flow (entries-shaped (d .flows) (p .flows)))
+    (each-append (each-map comm (entries-shaped (d .comms) (p .comms))) (each-map claim (each-all (d .claims) λ c. tt)))))
     (every-elim _ (linesOf d) (p .numbers)))
 
 -- a document that is orderly is read back from its text
@@ -215,7 +216,8 @@ print-read s d h = go (expect header s 0) (expect-found header s 0 nonzero-heade
         let r = lines-found s (length s) at 2 noLines d nothing-read h in
         let e : linesOf d ≡ r .lines = r .more ∙ unfold noLines linesOf rowLines in refl in
         let whole = stands-append header (collect lineText (r .lines)) s 0 at (length s) t (r .stands) in (
-          whole .text-here ∙ ap (λ (x : Bytes). header ++ collect lineText (r .lines) ++ x) (drop-length s) ∙ append-nil (header ++ collect lineText (r .lines)) ∙ ap (λ (ls : List Line). header ++ collect lineText ls) (sym e),
+          whole .text-here ∙ ap (λ (x : Bytes). header ++ collect lineText (r .lines) ++ x) (drop-length s) ∙ append-nil (header ++ collect lineText (r .lines))
+              ∙ ap (λ (ls : List Line). header ++ collect lineText ls) (sym e),
           orderly-iff d .1 (r .rows, r .partly),
         )
 

@@ -99,7 +99,8 @@ module _ (s : Bytes) where
           → Content section n r l e → Stands (ascii "]\n") s e next → Stands (lineText l) s at next
       whole section n l p q r e next h k t c v =
           rw (parts l, c .section-is, c .key-is)
-          (stands-append (ascii (sectionWord section)) _ s at p next h (stands-append (argument n) _ s p q next k (stands-append (ascii " ") _ s q r next t (stands-append (contentText l) (ascii "]\n") s r e next (c .stands) v))))
+          (stands-append (ascii (sectionWord section)) _ s at p next h
+          (stands-append (argument n) _ s p q next k (stands-append (ascii " ") _ s q r next t (stands-append (contentText l) (ascii "]\n") s r e next (c .stands) v))))
 
 -- ---- what stands there is read
 

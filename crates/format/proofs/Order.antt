@@ -112,7 +112,8 @@ add-partly d (claim c) p w h = record {
   numbers = more d (claim c) p h;
   flows = p .flows;
   comms = p .comms;
-  claims = rw (map-append (λ (c : Claim). c .channel) (d .claims) (c ∷ [])) (rising-snoc (map (λ (c : Claim). c .channel) (d .claims)) (c .channel) (p .claims) (every-map (λ n. ltb n (c .channel)) (λ (c : Claim). c .channel) (d .claims) (not-false _ (h .rises))));
+  claims = rw (map-append (λ (c : Claim). c .channel) (d .claims) (c ∷ []))
+      (rising-snoc (map (λ (c : Claim). c .channel) (d .claims)) (c .channel) (p .claims) (every-map (λ n. ltb n (c .channel)) (λ (c : Claim). c .channel) (d .claims) (not-false _ (h .rises))));
 }
 
 -- ---- the lines of an orderly document, in turn
@@ -142,7 +143,12 @@ rows-lead before (x ∷ xs) rest d′ t k =
     let s : before ++ (x ∷ xs) ≡ before ++ (x ∷ []) ++ xs = sym (append-assoc before (x ∷ []) xs) in
     let n : length (before ++ (x ∷ [])) ≡ suc (length before) = length-append before (x ∷ []) ∙ omega arith in
     step {d = rowsOnly before} {d′ = d′} {l = row (length before) x}
-    (record { ordered = refl; below = not-true _ (every-head _ (row (length before) x) (rowLines (suc (length before)) xs) t); counted = rw (eq-eqb (length before) (length before) refl); rises = refl })
+    (record {
+      ordered = refl;
+      below = not-true _ (every-head _ (row (length before) x) (rowLines (suc (length before)) xs) t);
+      counted = rw (eq-eqb (length before) (length before) refl);
+      rises = refl;
+    })
     (rw (n) at (rows-lead (before ++ (x ∷ [])) xs rest d′ (rw (← n) at (every-tail _ (row (length before) x) (rowLines (suc (length before)) xs) t)) (rw s at k)))
 
 -- an entry in the middle of a section: it is below the limit, and its key is above those before it
@@ -155,7 +161,8 @@ entry-fine mk before after e t =
     let shown : So (every (λ e. present (e .members) && rising (e .members)) (before ++ (e ∷ after))) = and-right (rising (map (λ (e : Entry). e .key) (before ++ (e ∷ after)))) _ rise in
     let here : So (present (e .members) && rising (e .members)) = every-head _ e after (every-right _ before (e ∷ after) shown) in (
       not-true _ (every-head _ e after (every-right _ before (e ∷ after) (and-right (entriesRise (before ++ (e ∷ after))) _ t))),
-      and-intro (every-unmap (λ n. ltb n (e .key)) (λ (e : Entry). e .key) before (rising-before _ (e .key) _ (rw (map-append (λ (e : Entry). e .key) before (e ∷ after)) at ks))) (and-right (present (e .members)) _ here),
+      and-intro (every-unmap (λ n. ltb n (e .key)) (λ (e : Entry). e .key) before (rising-before _ (e .key) _ (rw (map-append (λ (e : Entry). e .key) before (e ∷ after)) at ks)))
+          (and-right (present (e .members)) _ here),
     )
 
 pub document-leads : (d : Document) → So (orderly d) → Leads noLines (linesOf d) d
@@ -168,17 +175,20 @@ document-leads d o =
     let after-comms = every-right _ (map comm (d .comms)) _ after-flows in
     rows-lead [] (d .rows) _ d (every-left _ (rowLines 0 (d .rows)) _ all)
     (section flow (λ es. record { rows = d .rows; flows = es; comms = []; claims = [] }) (λ es e. refl)
-    (λ es. entriesRise es && every (λ f. not (aboveLimit (flow f))) es) (λ before after e t. let (b, r) = entry-fine flow before after e t in record { ordered = refl; below = b; counted = rw p; rises = rw r })
+    (λ es. entriesRise es && every (λ f. not (aboveLimit (flow f))) es)
+    (λ before after e t. let (b, r) = entry-fine flow before after e t in record { ordered = refl; below = b; counted = rw p; rises = rw r })
     [] (d .flows) _ d (and-intro (h .flows) (every-unmap _ flow (d .flows) (every-left _ (map flow (d .flows)) _ after-rows)))
     (section comm (λ es. record { rows = d .rows; flows = d .flows; comms = es; claims = [] }) (λ es e. refl)
-    (λ es. entriesRise es && every (λ f. not (aboveLimit (comm f))) es) (λ before after e t. let (b, r) = entry-fine comm before after e t in record { ordered = refl; below = b; counted = rw p; rises = rw r })
+    (λ es. entriesRise es && every (λ f. not (aboveLimit (comm f))) es)
+    (λ before after e t. let (b, r) = entry-fine comm before after e t in record { ordered = refl; below = b; counted = rw p; rises = rw r })
     [] (d .comms) _ d (and-intro (h .comms) (every-unmap _ comm (d .comms) (every-left _ (map comm (d .comms)) _ after-flows)))
     (rw (← append-nil (map claim (d .claims)))
     (section claim (λ cs. record { rows = d .rows; flows = d .flows; comms = d .comms; claims = cs }) (λ cs c. refl)
     (λ cs. rising (map (λ (c : Claim). c .channel) cs) && every (λ f. not (aboveLimit (claim f))) cs) (λ before after c t. claim-fine p before after c t)
     [] (d .claims) [] d (and-intro (h .claims) (every-unmap _ claim (d .claims) after-comms)) end))))
   where
-    claim-fine : So (present (d .rows)) → (before after : List Claim) (c : Claim) → So (rising (map (λ (c : Claim). c .channel) (before ++ (c ∷ after))) && every (λ f. not (aboveLimit (claim f))) (before ++ (c ∷ after)))
+    claim-fine : So (present (d .rows)) → (before after : List Claim) (c : Claim)
+        → So (rising (map (λ (c : Claim). c .channel) (before ++ (c ∷ after))) && every (λ f. not (aboveLimit (claim f))) (before ++ (c ∷ after)))
         → Faultless (record { rows = d .rows; flows = d .flows; comms = d .comms; claims = before }) (claim c)
     claim-fine p before after c t =
         let ks : So (rising (map (λ (c : Claim). c .channel) (before ++ (c ∷ after)))) = and-left _ _ t in

@@ -156,7 +156,8 @@ module _ (s : Bytes) where
       found-bind (form-found a) λ (f, b) u.
       found-bind (argument-found s b) λ (r, c) (l, v).
       found-bind (expect-found (ascii "]") s c refl) λ e w.
-      found (stands-append (ascii "[bind") _ s at p e h (stands-append (argument n) _ s p q e k (stands-append (ascii " ") _ s q a e t (stands-append (formText f) _ s a b e u (stands-append (argument r) (ascii "]") s b c e v w)))))
+      found (stands-append (ascii "[bind") _ s at p e h (stands-append (argument n) _ s p q e k
+      (stands-append (ascii " ") _ s q a e t (stands-append (formText f) _ s a b e u (stands-append (argument r) (ascii "]") s b c e v w)))))
 
   result-found : (at p q n : ℕ) → Stands (ascii "[result") s at p → Stands (argument n) s p q → Found (λ x. Stands (rowText (x .0)) s at (x .1)) (readResult n s q)
   unfolding readResult rowText ascii every

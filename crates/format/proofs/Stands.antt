@@ -142,4 +142,5 @@ module _ {A : Type 0} where
   unfolding oneOf apart
   one-of-stands {w} s at next a (here {x = x} {xs = xs} e) h = rw (e, expect-stands (ascii (x .0)) s at next (rw e at h), oneOf)
   one-of-stands {w} s at next a (there {x = x} {xs = xs} m) h =
-      rw (expect-clash (ascii (x .0)) (ascii (w .0)) s at next (each-at (every-elim (λ v. clash (ascii (x .0)) (ascii (v .0))) xs (search and-left)) m) h, oneOf) (one-of-stands s at next (search and-right) m h)
+      rw (expect-clash (ascii (x .0)) (ascii (w .0)) s at next (each-at (every-elim (λ v. clash (ascii (x .0)) (ascii (v .0))) xs (search and-left)) m) h, oneOf)
+      (one-of-stands s at next (search and-right) m h)

@@ -68,7 +68,8 @@ fresh-distinct xs (y ∷ ys) earlier h k e =
     rw (append-assoc xs (y ∷ []) ys) at (fresh-distinct (xs ++ (y ∷ [])) ys (y ∷ earlier) (distinct-snoc xs y h new) (λ n t. within n (rw (elem-append n xs (y ∷ [])) at t)) j)
   where
     within : (n : ℕ) → So (elem n xs || (eqb n y || false)) → So (eqb n y || elem n earlier)
-    within n t = ⊎-elim (λ a. or-right (eqb n y) (k n a)) (λ a. ⊎-elim (λ b. or-left (elem n earlier) b) (λ b. absurd (false≢true b)) (or-cases (eqb n y) false a)) (or-cases (elem n xs) (eqb n y || false) t)
+    within n t = ⊎-elim (λ a. or-right (eqb n y) (k n a)) (λ a. ⊎-elim (λ b. or-left (elem n earlier) b) (λ b. absurd (false≢true b)) (or-cases (eqb n y) false a))
+        (or-cases (elem n xs) (eqb n y || false) t)
 
 -- ---- over all rows
 
@@ -80,7 +81,8 @@ module _ (f : Row → List ℕ) (p : Program) where
 
   collect-next : (r : ℕ) → r < length p → collect f (take (suc r) p) ≡ collect f (take r p) ++ f (rowAt p r)
   unfolding collect rowAt
-  collect-next r l = ap (collect f) (take-suc p r (Row.Result 0) l) ∙ collect-append (take r p) (getD p r (Row.Result 0) ∷ []) ∙ ap (λ (l : List ℕ). collect f (take r p) ++ l) (append-nil (f (getD p r (Row.Result 0))))
+  collect-next r l = ap (collect f) (take-suc p r (Row.Result 0) l) ∙ collect-append (take r p) (getD p r (Row.Result 0) ∷ [])
+      ∙ ap (λ (l : List ℕ). collect f (take r p) ++ l) (append-nil (f (getD p r (Row.Result 0))))
 
   distinct-rows : ((r : ℕ) → r < length p → boundEarlier (collect f (take r p)) (f (rowAt p r)) ≡ false) → (r : ℕ) → r ≤ length p → So (distinct (collect f (take r p)))
   unfolding collect distinct
@@ -133,7 +135,8 @@ well-formed d e =
       boundOnce = all-distinct binders p (s .binders-right);
     }
   where
-    pointed : (r : ℕ) → r < length (d .rows) → So (every (λ t. ltb r t && ltb t (length (d .rows))) (pointers (rowAt (d .rows) r))) × (boundEarlier (collect pointers (take r (d .rows))) (pointers (rowAt (d .rows) r)) ≡ false)
+    pointed : (r : ℕ) → r < length (d .rows) → So (every (λ t. ltb r t && ltb t (length (d .rows))) (pointers (rowAt (d .rows) r)))
+        × (boundEarlier (collect pointers (take r (d .rows))) (pointers (rowAt (d .rows) r)) ≡ false)
     pointed r l =
         right-pointers (length (d .rows)) r (collect pointers (take r (d .rows))) (pointers (rowAt (d .rows) r))
         (or-false (wrongPointers (length (d .rows)) r (collect pointers (take r (d .rows))) (pointers (rowAt (d .rows) r))) _ (structured d e .pointers-right r l) .0)

@@ -1,4 +1,5 @@
--- The fourteen forms by a code, 2 to 15 in the order of document 01: how many numbers each holds, and the form of a code and its numbers. A code above 15 counts as apply; no table of words has one, and a store that has one is unsound, since its bytes are not those of the document read from it.
+-- The fourteen forms by a code, 2 to 15 in the order of document 01: how many numbers each holds, and the form of a code and its numbers. A code above 15 counts as
+-- apply; no table of words has one, and a store that has one is unsound, since its bytes are not those of the document read from it.
 use Prim.Native.Nat.{ℕ}
 use mathlib.Core.List.{List}
 use lib.ListN.{getD}

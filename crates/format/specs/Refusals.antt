@@ -2,7 +2,24 @@
 use Prim.Native.Nat.{ℕ}
 use Rattle.format.specs.declared.Reason.{Reason}
 use Rattle.format.specs.declared.Refusal.{Refusal}
-use Rattle.format.specs.declared.Reason.the-variants.{TooLong, NotALine, AboveLimit, OutOfCount, NotRising, WrongPointer, BoundTwice, OutOfScope, NotAllowed, FlowRuleFails, ClaimFails, StoreTooShort, StoreEmpty, StoreUnsound, OutputTooShort, NotAChannel}
+use Rattle.format.specs.declared.Reason.the-variants.{
+  TooLong,
+  NotALine,
+  AboveLimit,
+  OutOfCount,
+  NotRising,
+  WrongPointer,
+  BoundTwice,
+  OutOfScope,
+  NotAllowed,
+  FlowRuleFails,
+  ClaimFails,
+  StoreTooShort,
+  StoreEmpty,
+  StoreUnsound,
+  OutputTooShort,
+  NotAChannel,
+}
 
 unfoldable pub number : Reason → ℕ
 number TooLong = 1

@@ -25,7 +25,8 @@ withName n scope = set scope n 1
 unfoldable pub useFault : ℕ → ℕ → Scope → ℕ
 useFault r n scope = pick (eqb (getD scope n 0) 0) r rowLimit
 
--- The smallest row with a use out of scope, from row r down, or `rowLimit`. `from` is the row above the one that points at r: a row below it, or past the last, is passed over (6 refuses such a pointer), so the rows left above fall, and the first number bounds the depth.
+-- The smallest row with a use out of scope, from row r down, or `rowLimit`. `from` is the row above the one that points at r: a row below it, or past the last, is passed
+-- over (6 refuses such a pointer), so the rows left above fall, and the first number bounds the depth.
 -- "Row 0 starts with none; the rest adds N; a fun's body adds F and P; a branch adds L or R; a spawned row adds nothing. N is not in scope in its own form."
 unfoldable mutual
   pub rowFault : ℕ → Program → ℕ → ℕ → Scope → ℕ

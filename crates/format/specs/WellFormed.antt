@@ -1,4 +1,5 @@
--- The documents that a file of any length can say. Orderly: what refusals 2 to 5 ask of the numbers and their order (a row's number is its place, so that it counts from 0 needs no test). Well-formed: 6 to 9 find nothing either.
+-- The documents that a file of any length can say. Orderly: what refusals 2 to 5 ask of the numbers and their order (a row's number is its place, so that it counts from
+-- 0 needs no test). Well-formed: 6 to 9 find nothing either.
 use Prim.Native.Nat.{ℕ}
 use mathlib.Core.Bool.{Bool, true, false, not, _&&_}
 use mathlib.Core.List.{List, map}

@@ -10,7 +10,24 @@ use lib.Arith.{digits-div, digits-mod}
 use borrow.Author.Tests.{ne-eqb}
 use Rattle.program.specs.Test.{pick}
 use Rattle.format.specs.declared.Reason.{Reason}
-use Rattle.format.specs.declared.Reason.the-variants.{TooLong, NotALine, AboveLimit, OutOfCount, NotRising, WrongPointer, BoundTwice, OutOfScope, NotAllowed, FlowRuleFails, ClaimFails, StoreTooShort, StoreEmpty, StoreUnsound, OutputTooShort, NotAChannel}
+use Rattle.format.specs.declared.Reason.the-variants.{
+  TooLong,
+  NotALine,
+  AboveLimit,
+  OutOfCount,
+  NotRising,
+  WrongPointer,
+  BoundTwice,
+  OutOfScope,
+  NotAllowed,
+  FlowRuleFails,
+  ClaimFails,
+  StoreTooShort,
+  StoreEmpty,
+  StoreUnsound,
+  OutputTooShort,
+  NotAChannel,
+}
 use Rattle.format.specs.declared.Refusal.{Refusal}
 use Rattle.format.specs.Refusals.{number}
 use Rattle.calls.specs.declared.LoadAnswer.{LoadAnswer}
@@ -98,6 +115,7 @@ pub verdict-back : (a : VerdictAnswer) → length (a .words) ≡ 4 → Lossless 
 unfolding verdictAnswer statusAnswer
 verdict-back a four = go (a .status)
   where
-    go : (s : VerdictStatus) → Lossless wordBits (statusAnswer s (map yesOrNo (a .words))) → unpacked wordBits 4 (packed wordBits (statusAnswer s (map yesOrNo (a .words)))) ≡ statusAnswer s (map yesOrNo (a .words))
+    go : (s : VerdictStatus) → Lossless wordBits (statusAnswer s (map yesOrNo (a .words)))
+        → unpacked wordBits 4 (packed wordBits (statusAnswer s (map yesOrNo (a .words)))) ≡ statusAnswer s (map yesOrNo (a .words))
     go VerdictStatus.Given h = rw (length-map (a .words) yesOrNo ∙ four) at (values-back wordBits (map yesOrNo (a .words)) h)
     go (VerdictStatus.Refused r) h = refusal-back wordBits 4 r

@@ -1,4 +1,5 @@
--- An answer as one 64-bit number, for the C functions. The low 8 bits are 0 where the call is accepted, else they have the refusal's number. Above them stands the line, or the values one after the other, the first lowest.
+-- An answer as one 64-bit number, for the C functions. The low 8 bits are 0 where the call is accepted, else they have the refusal's number. Above them stands the line,
+-- or the values one after the other, the first lowest.
 use Prim.Native.Nat.{ℕ, _+_, _*_, _^_, _<_}
 use mathlib.Core.List.{List, [], _∷_}
 use Rattle.calls.specs.Answers.{Answer, turnedBack, answered}

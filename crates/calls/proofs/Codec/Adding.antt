@@ -63,7 +63,8 @@ unfolding membersAt
 members-other [] e n d = rw (ne-eqb n (e .key) d, membersAt)
 members-other (f ∷ es) e n d = go (eqb n (f .key)) (members-other es e n d)
   where
-    go : (b : Bool) → membersAt (es ++ (e ∷ [])) n ≡ membersAt es n → _≡_ {A = List ℕ} (elim b [ true ↦ f .members | false ↦ membersAt (es ++ (e ∷ [])) n ]) (elim b [ true ↦ f .members | false ↦ membersAt es n ])
+    go : (b : Bool) → membersAt (es ++ (e ∷ [])) n ≡ membersAt es n
+        → _≡_ {A = List ℕ} (elim b [ true ↦ f .members | false ↦ membersAt (es ++ (e ∷ [])) n ]) (elim b [ true ↦ f .members | false ↦ membersAt es n ])
     go true h = refl
     go false h = h
 
@@ -141,7 +142,8 @@ unfolding claimCode
 claim-other [] c n d = rw (ne-eqb n (c .channel) d, claimCode)
 claim-other (k ∷ cs) c n d = go (eqb n (k .channel)) (claim-other cs c n d)
   where
-    go : (b : Bool) → claimCode (cs ++ (c ∷ [])) n ≡ claimCode cs n → _≡_ {A = ℕ} (elim b [ true ↦ wordCode (k .word) | false ↦ claimCode (cs ++ (c ∷ [])) n ]) (elim b [ true ↦ wordCode (k .word) | false ↦ claimCode cs n ])
+    go : (b : Bool) → claimCode (cs ++ (c ∷ [])) n ≡ claimCode cs n
+        → _≡_ {A = ℕ} (elim b [ true ↦ wordCode (k .word) | false ↦ claimCode (cs ++ (c ∷ [])) n ]) (elim b [ true ↦ wordCode (k .word) | false ↦ claimCode cs n ])
     go true h = refl
     go false h = h
 
@@ -206,18 +208,29 @@ rows-filled xs x l =
 pub filled-patch : {old new part : Bytes} {at : ℕ} (pre post : Bytes) → Filled old new part at → patch (length pre + at) part (pre ++ (old ++ post)) ≡ pre ++ (new ++ post)
 filled-patch {old} {new} {part} {at} pre post f =
     let a : pre ++ (old ++ post) ≡ pre ++ f .before ++ (replicate (length part) 0 ++ (f .after ++ post)) =
-    rw (f .was, append-assoc (f .before) (replicate (length part) 0 ++ f .after) post, append-assoc (replicate (length part) 0) (f .after) post, append-assoc pre (f .before) (replicate (length part) 0 ++ (f .after ++ post))) in
+    rw (
+      f .was,
+      append-assoc (f .before) (replicate (length part) 0 ++ f .after) post,
+      append-assoc (replicate (length part) 0) (f .after) post,
+      append-assoc pre (f .before) (replicate (length part) 0 ++ (f .after ++ post)),
+    ) in
     let b : pre ++ f .before ++ (part ++ (f .after ++ post)) ≡ pre ++ (new ++ post) =
     rw (f .is, append-assoc (f .before) (part ++ f .after) post, append-assoc part (f .after) post, append-assoc pre (f .before) (part ++ (f .after ++ post))) in
     ap (patch (length pre + at) part) a
-    ∙ patch-middle (pre ++ f .before) (replicate (length part) 0) part (f .after ++ post) (length pre + at) (length-append pre (f .before) ∙ ap (λ (n : ℕ). length pre + n) (f .size)) (length-replicate (length part) 0)
+    ∙ patch-middle (pre ++ f .before) (replicate (length part) 0) part (f .after ++ post) (length pre + at) (length-append pre (f .before) ∙ ap (λ (n : ℕ). length pre + n) (f .size))
+    (length-replicate (length part) 0)
     ∙ b
 
 -- the part was 0
 pub filled-zero : {old new part : Bytes} {at : ℕ} (pre post : Bytes) → Filled old new part at → take (length part) (drop (length pre + at) (pre ++ (old ++ post))) ≡ replicate (length part) 0
 filled-zero {old} {new} {part} {at} pre post f =
     let a : pre ++ (old ++ post) ≡ pre ++ f .before ++ (replicate (length part) 0 ++ (f .after ++ post)) =
-    rw (f .was, append-assoc (f .before) (replicate (length part) 0 ++ f .after) post, append-assoc (replicate (length part) 0) (f .after) post, append-assoc pre (f .before) (replicate (length part) 0 ++ (f .after ++ post))) in
+    rw (
+      f .was,
+      append-assoc (f .before) (replicate (length part) 0 ++ f .after) post,
+      append-assoc (replicate (length part) 0) (f .after) post,
+      append-assoc pre (f .before) (replicate (length part) 0 ++ (f .after ++ post)),
+    ) in
     rw (a, drop-at (pre ++ f .before) (replicate (length part) 0 ++ (f .after ++ post)) (length pre + at) (length-append pre (f .before) ∙ ap (λ (n : ℕ). length pre + n) (f .size)))
     (take-at (replicate (length part) 0) (f .after ++ post) (length part) (length-replicate (length part) 0))
 
@@ -265,11 +278,20 @@ module _ (d : Document) (fit : length (d .rows) ≤ rowLimit) where
       let rows = padded rowsSize (collect rowBytes (d .rows)) in
       let flows = setsBytes (d .flows) in
       let comms = setsBytes (d .comms) in
-      let n : length (rows ++ (flows ++ comms)) ≡ rowsSize + setsSize + setsSize = length-append rows (flows ++ comms) ∙ rw (length-append flows comms, rows-part d fit, sets-bytes-length (d .flows), sets-bytes-length (d .comms)) in
+      let n : length (rows ++ (flows ++ comms)) ≡ rowsSize + setsSize + setsSize = length-append rows (flows ++ comms)
+      ∙ rw (length-append flows comms, rows-part d fit, sets-bytes-length (d .flows), sets-bytes-length (d .comms)) in
       let old : rows ++ (flows ++ comms) ++ (counting rowLimit 0 (claimCode (d .claims)) ++ []) ≡ rows ++ (flows ++ (comms ++ counting rowLimit 0 (claimCode (d .claims)))) =
-      rw (append-nil (counting rowLimit 0 (claimCode (d .claims))), append-assoc rows (flows ++ comms) (counting rowLimit 0 (claimCode (d .claims))), append-assoc flows comms (counting rowLimit 0 (claimCode (d .claims)))) in
+      rw (
+        append-nil (counting rowLimit 0 (claimCode (d .claims))),
+        append-assoc rows (flows ++ comms) (counting rowLimit 0 (claimCode (d .claims))),
+        append-assoc flows comms (counting rowLimit 0 (claimCode (d .claims))),
+      ) in
       let new : rows ++ (flows ++ comms) ++ (counting rowLimit 0 (claimCode (d .claims ++ (c ∷ []))) ++ []) ≡ rows ++ (flows ++ (comms ++ counting rowLimit 0 (claimCode (d .claims ++ (c ∷ []))))) =
-      rw (append-nil (counting rowLimit 0 (claimCode (d .claims ++ (c ∷ [])))), append-assoc rows (flows ++ comms) (counting rowLimit 0 (claimCode (d .claims ++ (c ∷ [])))), append-assoc flows comms (counting rowLimit 0 (claimCode (d .claims ++ (c ∷ []))))) in
+      rw (
+        append-nil (counting rowLimit 0 (claimCode (d .claims ++ (c ∷ [])))),
+        append-assoc rows (flows ++ comms) (counting rowLimit 0 (claimCode (d .claims ++ (c ∷ [])))),
+        append-assoc flows comms (counting rowLimit 0 (claimCode (d .claims ++ (c ∷ [])))),
+      ) in
       sym (ap (λ (k : ℕ). patch (k + c .channel) (wordCode (c .word) ∷ []) (rows ++ (flows ++ (comms ++ counting rowLimit 0 (claimCode (d .claims)))))) (sym n)
       ∙ ap (patch (length (rows ++ (flows ++ comms)) + c .channel) (wordCode (c .word) ∷ [])) (sym old) ∙ filled-patch (rows ++ (flows ++ comms)) [] f ∙ new)
 
@@ -280,7 +302,8 @@ unfolding chunks collect counting
 zeros z zero i e = refl
 zeros z (suc n) i e =
     let q : suc n * memberLimit ≡ memberLimit + n * memberLimit = omega arith in
-    ap (λ (l : Bytes). z ++ l) (zeros z n (suc i) e) ∙ ap (λ (l : Bytes). l ++ replicate (n * memberLimit) 0) e ∙ replicate-append-replicate memberLimit (n * memberLimit) 0 ∙ ap (λ (k : ℕ). replicate k 0) (sym q)
+    ap (λ (l : Bytes). z ++ l) (zeros z n (suc i) e) ∙ ap (λ (l : Bytes). l ++ replicate (n * memberLimit) 0) e ∙ replicate-append-replicate memberLimit (n * memberLimit) 0
+    ∙ ap (λ (k : ℕ). replicate k 0) (sym q)
 
 no-flags : flagsOf [] ≡ replicate memberLimit 0
 unfolding flagsOf

@@ -18,7 +18,10 @@ slice-aggregate-judge-rows : tie.Need-slice-aggregate-judge-rows
 slice-aggregate-judge-rows c = sym (fixed-size _ _ (rw (c .before .before .rows .given .1) at (c .before .before .before .before .«open» .ensures)))
 
 judge-rows-requires : tie.Need-judge-rows-requires
-judge-rows-requires c κs = (fixed-size _ _ (rw (c .before .before .rows .given .1) at (c .before .before .before .before .«open» .ensures)), counted _ _ (rw (c .before .before .rows .given .1) at (c .before .before .before .before .«open» .ensures)))
+judge-rows-requires c κs = (
+  fixed-size _ _ (rw (c .before .before .rows .given .1) at (c .before .before .before .before .«open» .ensures)),
+  counted _ _ (rw (c .before .before .rows .given .1) at (c .before .before .before .before .«open» .ensures)),
+)
 
 returns : tie.Need-returns
 returns c = judge-closed _ (rw (c .before .refusal .given .1) at (c .before .before .before .«open» .ensures))

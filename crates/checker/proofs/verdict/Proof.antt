@@ -18,7 +18,10 @@ slice-aggregate-verdict-rows : tie.Need-slice-aggregate-verdict-rows
 slice-aggregate-verdict-rows c = sym (fixed-size _ _ (rw (c .before .before .rows .given .1) at (c .before .before .before .before .«open» .ensures)))
 
 verdict-rows-requires : tie.Need-verdict-rows-requires
-verdict-rows-requires c κs = (fixed-size _ _ (rw (c .before .before .rows .given .1) at (c .before .before .before .before .«open» .ensures)), counted _ _ (rw (c .before .before .rows .given .1) at (c .before .before .before .before .«open» .ensures)))
+verdict-rows-requires c κs = (
+  fixed-size _ _ (rw (c .before .before .rows .given .1) at (c .before .before .before .before .«open» .ensures)),
+  counted _ _ (rw (c .before .before .rows .given .1) at (c .before .before .before .before .«open» .ensures)),
+)
 
 returns : tie.Need-returns
 returns c = verdict-closed _ (rw (c .before .refusal .given .1) at (c .before .before .before .«open» .ensures)) _

@@ -18,7 +18,10 @@ same-length : tie.Need-same-length
 same-length c = search needs
 
 returns : tie.Need-returns
-returns c = (c .pack-load .ensures ∙ ap (λ (a : LoadAnswer). packed countBits (loadAnswer a)) (c .before .before .before .load .ensures .answer-is), c .before .before .before .load .ensures .bytes-are)
+returns c = (
+  c .pack-load .ensures ∙ ap (λ (a : LoadAnswer). packed countBits (loadAnswer a)) (c .before .before .before .load .ensures .answer-is),
+  c .before .before .before .load .ensures .bytes-are,
+)
 
 pub dispenser-load-spec : {M : Type 1} → statement M
 dispenser-load-spec = tie.close (tie.spec load-requires pack-load-requires same-length returns)

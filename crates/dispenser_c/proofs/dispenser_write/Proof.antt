@@ -18,7 +18,10 @@ same-length : tie.Need-same-length
 same-length c = search needs
 
 returns : tie.Need-returns
-returns c = (c .pack-write .ensures ∙ ap (λ (a : WriteAnswer). packed numberBits (writeAnswer a)) (c .before .before .before .write .ensures .answer-is), c .before .before .before .write .ensures .bytes-are)
+returns c = (
+  c .pack-write .ensures ∙ ap (λ (a : WriteAnswer). packed numberBits (writeAnswer a)) (c .before .before .before .write .ensures .answer-is),
+  c .before .before .before .write .ensures .bytes-are,
+)
 
 pub dispenser-write-spec : {M : Type 1} → statement M
 dispenser-write-spec = tie.close (tie.spec write-requires pack-write-requires same-length returns)

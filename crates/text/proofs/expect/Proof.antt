@@ -30,7 +30,12 @@ returns : tie.Need-returns Inv-loop μ-loop
 returns c = sym (expect-stop _ _ _ _ (c .before .before .before .loop-test .taken) (λ e. c .if1 .taken (c .before .before .byte-at .ensures ∙ e))) ∙ c .before .before .before .before .loop .inv .1
 
 add-next : tie.Need-add-next Inv-loop μ-loop
-add-next c = omega (arith, word-inside (c .before .before .before .before .before .before .before .args .word .now) (c .before .before .before .before .before .before .before .args .s .now) (c .before .before .before .before .loop .i) (c .before .before .before .before .loop .next) (c .before .before .before .before .before .before .before .pre) (c .before .before .before .loop-test .taken) (sym (c .before .before .byte-at .ensures) ∙ c .if1 .left))
+add-next c = omega (
+  arith,
+  word-inside (c .before .before .before .before .before .before .before .args .word .now) (c .before .before .before .before .before .before .before .args .s .now)
+      (c .before .before .before .before .loop .i) (c .before .before .before .before .loop .next) (c .before .before .before .before .before .before .before .pre)
+      (c .before .before .before .loop-test .taken) (sym (c .before .before .byte-at .ensures) ∙ c .if1 .left),
+)
 
 add-i : tie.Need-add-i Inv-loop μ-loop
 add-i c = search needs
@@ -39,7 +44,11 @@ loop-less : tie.Need-loop-less Inv-loop μ-loop
 loop-less c = search needs
 
 loop-again : tie.Need-loop-again Inv-loop μ-loop
-loop-again c = (omega arith, sym (expect-step _ _ _ _ (c .before .before .before .loop-test .taken) (sym (c .before .before .byte-at .ensures) ∙ c .if1 .left)) ∙ c .before .before .before .before .loop .inv .1)
+loop-again c = (
+  omega arith,
+  sym (expect-step _ _ _ _ (c .before .before .before .loop-test .taken) (sym (c .before .before .byte-at .ensures) ∙ c .if1 .left))
+      ∙ c .before .before .before .before .loop .inv .1,
+)
 
 returns-2 : tie.Need-returns-2 Inv-loop μ-loop
 returns-2 c = sym (expect-end _ _ _ _ (c .loop-test .left)) ∙ c .before .loop .inv .1

@@ -27,7 +27,13 @@ digit-at-requires-2 c κs = search needs
 
 returns-3 : tie.Need-returns-3
 unfolding readNumber
-returns-3 c = simp (← (c .before .before .before .before .digit-at .ensures), ← (c .before .digit-at2 .ensures), le-ltb _ _ (c .before .before .before .if1 .left), ne-eqb _ _ (c .before .before .if2 .left), lt-ltb _ _ (c .if3 .taken))
+returns-3 c = simp (
+  ← (c .before .before .before .before .digit-at .ensures),
+  ← (c .before .digit-at2 .ensures),
+  le-ltb _ _ (c .before .before .before .if1 .left),
+  ne-eqb _ _ (c .before .before .if2 .left),
+  lt-ltb _ _ (c .if3 .taken),
+)
 
 add-q : tie.Need-add-q
 add-q c = omega (arith, digit-inside _ _ _ (c .before .digit-at2 .ensures) (c .if3 .left))
