@@ -30,8 +30,10 @@ same-length : tie.Need-same-length
 same-length c = search needs
 
 returns-3 : tie.Need-returns-3
-returns-3 c = whole-text _ _ _ _ _ _ (rw (c .before .before .before .before .before .before .before .rows .given .1) at
-    (c .before .before .before .before .before .before .before .before .before .«open» .ensures)) (c .before .before .before .before .before .document-length .ensures)
+returns-3 c =
+    let past8 = c .before .before .before .before .before .before .before .before in
+    whole-text _ _ _ _ _ _ (rw (c .before .before .before .before .before .before .before .rows .given .1) at
+    (past8 .before .«open» .ensures)) (c .before .before .before .before .before .document-length .ensures)
     (c .before .before .before .before .if1 .left) (c .before .before .put-document .ensures)
 
 pub write-spec : {M : Type 1} → statement M

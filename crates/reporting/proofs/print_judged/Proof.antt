@@ -26,7 +26,10 @@ slice-aggregate-judge-store : tie.Need-slice-aggregate-judge-store
 slice-aggregate-judge-store c = search needs
 
 judge-store-requires : tie.Need-judge-store-requires
-judge-store-requires c κs = (fixed-size _ _ (rw (c .before .before .before .rows .given .1) at (c .before .before .before .before .before .«open» .ensures)), (counted _ _ (rw (c .before .before .before .rows .given .1) at (c .before .before .before .before .before .«open» .ensures)), search needs))
+judge-store-requires c κs = (
+  fixed-size _ _ (rw (c .before .before .before .rows .given .1) at (c .before .before .before .before .before .«open» .ensures)),
+  (counted _ _ (rw (c .before .before .before .rows .given .1) at (c .before .before .before .before .before .«open» .ensures)), search needs),
+)
 
 enum-known-refusal-2 : tie.Need-enum-known-refusal-2
 enum-known-refusal-2 c = search needs
@@ -56,7 +59,20 @@ slice-aggregate-print-channels : tie.Need-slice-aggregate-print-channels
 slice-aggregate-print-channels c = search needs
 
 print-channels-requires : tie.Need-print-channels-requires
-print-channels-requires c κs = ((omega (arith, fixed-size _ _ (rw (c .before .before .before .before .before .before .before .before .before .before .before .before .before .before .rows .given .1) at (c .before .before .before .before .before .before .before .before .before .before .before .before .before .before .before .before .«open» .ensures))), few-rows _ _ (counted _ _ (rw (c .before .before .before .before .before .before .before .before .before .before .before .before .before .before .rows .given .1) at (c .before .before .before .before .before .before .before .before .before .before .before .before .before .before .before .before .«open» .ensures))), search needs), c .before .before .before .before .before .before .before .before .before .before .judge-store .ensures .grid-tells _ (c .before .before .before .before .before .before .before .claims .given .1))
+print-channels-requires c κs =
+    let past8 = c .before .before .before .before .before .before .before .before in (
+      (
+        omega (
+          arith,
+          fixed-size _ _ (rw (past8 .before .before .before .before .before .before .rows .given .1) at
+              (past8 .before .before .before .before .before .before .before .before .«open» .ensures)),
+        ),
+        few-rows _ _ (counted _ _ (rw (past8 .before .before .before .before .before .before .rows .given .1) at
+            (past8 .before .before .before .before .before .before .before .before .«open» .ensures))),
+        search needs,
+      ),
+      past8 .before .before .judge-store .ensures .grid-tells _ (c .before .before .before .before .before .before .before .claims .given .1),
+    )
 
 returns : tie.Need-returns
 returns c = search needs

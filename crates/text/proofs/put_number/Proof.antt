@@ -16,21 +16,23 @@ put-place-requires-2 c κs = (omega arith, room-first _ _ (room-then _ (c .befor
 
 put-place-requires-3 : tie.Need-put-place-requires-3
 unfolding digits
-put-place-requires-3 c κs = (
-  omega arith,
-  room-first _ _ (room-then _ (c .before .before .before .put-place2 .ensures)
-      (room-then _ (c .before .before .before .before .before .before .before .put-place .ensures) (c .before .before .before .before .before .before .before .before .before .before .pre))),
-)
+put-place-requires-3 c κs =
+    let past8 = c .before .before .before .before .before .before .before .before in (
+      omega arith,
+      room-first _ _ (room-then _ (c .before .before .before .put-place2 .ensures)
+          (room-then _ (c .before .before .before .before .before .before .before .put-place .ensures) (past8 .before .before .pre))),
+    )
 
 put-place-requires-4 : tie.Need-put-place-requires-4
 unfolding digits
-put-place-requires-4 c κs = (
-  omega arith,
-  room-first _ _ (room-then _ (c .before .before .before .put-place3 .ensures)
-      (room-then _ (c .before .before .before .before .before .before .before .put-place2 .ensures)
-      (room-then _ (c .before .before .before .before .before .before .before .before .before .before .before .put-place .ensures)
-      (c .before .before .before .before .before .before .before .before .before .before .before .before .before .before .pre)))),
-)
+put-place-requires-4 c κs =
+    let past8 = c .before .before .before .before .before .before .before .before in (
+      omega arith,
+      room-first _ _ (room-then _ (c .before .before .before .put-place3 .ensures)
+          (room-then _ (c .before .before .before .before .before .before .before .put-place2 .ensures)
+          (room-then _ (past8 .before .before .before .put-place .ensures)
+          (past8 .before .before .before .before .before .before .pre)))),
+    )
 
 add-unit : tie.Need-add-unit
 add-unit c = search needs
@@ -40,20 +42,26 @@ cast-unit c = search needs
 
 put-byte-requires : tie.Need-put-byte-requires
 unfolding digits
-put-byte-requires c κs = room-then _ (c .before .before .before .put-place4 .ensures)
+put-byte-requires c κs =
+    let past8 = c .before .before .before .before .before .before .before .before in
+    let past16 = past8 .before .before .before .before .before .before .before .before in
+    room-then _ (c .before .before .before .put-place4 .ensures)
     (room-then _ (c .before .before .before .before .before .before .before .put-place3 .ensures)
-    (room-then _ (c .before .before .before .before .before .before .before .before .before .before .before .put-place2 .ensures)
-    (room-then _ (c .before .before .before .before .before .before .before .before .before .before .before .before .before .before .before .put-place .ensures)
-    (c .before .before .before .before .before .before .before .before .before .before .before .before .before .before .before .before .before .before .pre))))
+    (room-then _ (past8 .before .before .before .put-place2 .ensures)
+    (room-then _ (past8 .before .before .before .before .before .before .before .put-place .ensures)
+    (past16 .before .before .pre))))
 
 same-length : tie.Need-same-length
 same-length c = search needs
 
 returns : tie.Need-returns
 unfolding digits
-returns c = then (c .before .before .before .before .before .before .before .before .before .before .before .before .before .before .before .before .before .before .put-place .ensures)
-    (then (c .before .before .before .before .before .before .before .before .before .before .before .before .before .before .put-place2 .ensures)
-    (then (c .before .before .before .before .before .before .before .before .before .before .put-place3 .ensures)
+returns c =
+    let past8 = c .before .before .before .before .before .before .before .before in
+    let past16 = past8 .before .before .before .before .before .before .before .before in
+    then (past16 .before .before .put-place .ensures)
+    (then (past8 .before .before .before .before .before .before .put-place2 .ensures)
+    (then (past8 .before .before .put-place3 .ensures)
     (then (c .before .before .before .before .before .before .put-place4 .ensures) (c .before .before .put-byte .ensures))))
 
 pub put-number-spec : {M : Type 1} → statement M

@@ -24,7 +24,9 @@ write-all-requires-2 : tie.Need-write-all-requires-2
 write-all-requires-2 c κs = search needs
 
 slice-aggregate-write-all-3 : tie.Need-slice-aggregate-write-all-3
-slice-aggregate-write-all-3 c = sym (length-take-le _ (c .before .before .before .before .before .before .before .before .before .before .before .args .out .now) (c .before .if1 .taken))
+slice-aggregate-write-all-3 c =
+    let past8 = c .before .before .before .before .before .before .before .before in
+    sym (length-take-le _ (past8 .before .before .before .args .out .now) (c .before .if1 .taken))
 
 write-all-requires-3 : tie.Need-write-all-requires-3
 write-all-requires-3 c κs = search needs
