@@ -9,6 +9,8 @@ pub mod ffi;
 
 use std::fmt;
 
+use crate::reference::document::LAST_NUMBER;
+
 /// The low bits of an answer, which tell accepted from refused.
 const STATUS_BITS: u32 = 8;
 
@@ -74,7 +76,7 @@ impl fmt::Display for Reason {
         f.write_str(match self {
             Reason::FileTooLong => "the file has more than 32,768 bytes",
             Reason::NotALine => "this is no line of the kinds that may stand here",
-            Reason::NumberAboveLimit => "a number is above 159",
+            Reason::NumberAboveLimit => return write!(f, "a number is above {LAST_NUMBER}"),
             Reason::RowOutOfCount => "a row is out of count",
             Reason::NotRising => "numbers do not rise",
             Reason::Pointer => "a row is not pointed at exactly once, from a smaller row",

@@ -6,12 +6,12 @@
 //! With it the reference can say of any bytes what the calls must answer.
 
 use crate::reference::document::{
-    Bind, Branch, Claim, Comm, Document, Flow, Form, Row, Set, Word, LAST_NUMBER,
+    Bind, Branch, Claim, Comm, Document, Flow, Form, Row, Set, Word, LAST_NUMBER, NUMBER_LIMIT,
 };
 use crate::reference::structure;
 
 /// How many rows and names there can be.
-pub const LIMIT: usize = LAST_NUMBER + 1;
+pub const LIMIT: usize = NUMBER_LIMIT;
 const ROW_SIZE: usize = 8;
 /// The members of a set: unit and the rows.
 const SET_SIZE: usize = LIMIT + 1;

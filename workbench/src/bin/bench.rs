@@ -9,7 +9,7 @@ use workbench::checker::ffi;
 use workbench::generate::{dense, file_of_length, shared, workers, Random};
 use workbench::layout::{encode, STORE_SIZE};
 use workbench::reference::check;
-use workbench::reference::document::{Document, MAX_FILE_BYTES};
+use workbench::reference::document::{Document, MAX_FILE_BYTES, NUMBER_LIMIT};
 use workbench::reference::print::print;
 use workbench::samples::A;
 
@@ -224,14 +224,14 @@ fn main() {
         Input::of_file("example A", A.as_bytes()),
         Input::new("typical, 6 workers", workers(44)),
         Input::of_file("largest file", &largest),
-        Input::new("hardest sync rules", shared(160)),
+        Input::new("hardest sync rules", shared(NUMBER_LIMIT)),
         Input::new("densest tables", dense()),
     ];
     describe(&inputs);
     head();
     inputs.iter().for_each(bench);
     println!("\nGrowth with rows\n");
-    let sizes = [20, 40, 80, 160];
+    let sizes = [20, 40, 80, NUMBER_LIMIT];
     let typical = sizes.map(|rows| Input::new(&format!("workers, {rows} rows"), workers(rows)));
     let hardest = sizes.map(|rows| Input::new(&format!("sync rules, {rows} rows"), shared(rows)));
     let inputs: Vec<Input> = typical.into_iter().chain(hardest).collect();

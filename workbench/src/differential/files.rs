@@ -5,7 +5,7 @@ use crate::generate::{
     edit_lines, file_of_length, full_document, loadable_document, loose_document, structural_file,
     wide_document, Random, Size,
 };
-use crate::reference::document::MAX_FILE_BYTES;
+use crate::reference::document::{LAST_NUMBER, MAX_FILE_BYTES, NUMBER_LIMIT};
 use crate::reference::print::print;
 
 /// Kinds of generated files.
@@ -57,8 +57,8 @@ impl FileKind {
 /// A size, more often small than large.
 fn draw_size(random: &mut Random) -> Size {
     let (rows, names) = match random.below(16) {
-        0 => (160, 160),
-        1..=3 => (30 + random.below(40), 160),
+        0 => (NUMBER_LIMIT, NUMBER_LIMIT),
+        1..=3 => (30 + random.below(40), NUMBER_LIMIT),
         4..=6 => (5, 12),
         _ => (6 + random.below(16), 40),
     };
@@ -110,15 +110,21 @@ fn row_limit(random: &mut Random) -> Vec<u8> {
     match random.below(5) {
         0 | 1 => file,
         2 => {
-            let number = [160, 159, 0, 161, 7][random.below(5)];
-            let rows = file.split_inclusive(|&byte| byte == b'\n').take(161);
+            let number = [NUMBER_LIMIT, LAST_NUMBER, 0, NUMBER_LIMIT + 1, 7][random.below(5)];
+            let rows = file
+                .split_inclusive(|&byte| byte == b'\n')
+                .take(NUMBER_LIMIT + 1);
             let mut file: Vec<u8> = rows.flatten().copied().collect();
             file.extend(format!("[row {number} [result 0]]\n").bytes());
             file
         }
         3 => damage(random, &file),
         _ => {
-            let kinds = ["[flow 160 [u]]\n", "[comm 0 [160]]\n", "[claim 160 many]\n"];
+            let kinds = [
+                format!("[flow {NUMBER_LIMIT} [u]]\n"),
+                format!("[comm 0 [{NUMBER_LIMIT}]]\n"),
+                format!("[claim {NUMBER_LIMIT} many]\n"),
+            ];
             file.extend(kinds[random.below(kinds.len())].bytes());
             file
         }
@@ -128,7 +134,7 @@ fn row_limit(random: &mut Random) -> Vec<u8> {
 /// Any bytes, mostly pieces of lines, after the header more often than not.
 fn pieces(random: &mut Random) -> Vec<u8> {
     const PIECES: [&str; 24] = [
-        "[", "]", " ", "\n", "0", "1", "9", "159", "160", "u", "[row 0 ", "[row 1 ", "[bind ",
+        "[", "]", " ", "\n", "0", "1", "9", "15", "16", "u", "[row 0 ", "[row 1 ", "[bind ",
         "[result ", "[unit]", "[chan]", "[flow ", "[comm ", "[claim ", "many", "]]\n", "]\n",
         "[u]", "[case ",
     ];

@@ -7,7 +7,7 @@ use crate::generate::{
     Random, Size, Tables,
 };
 use crate::layout::{encode, STORE_SIZE};
-use crate::reference::document::Document;
+use crate::reference::document::{Document, LAST_NUMBER};
 use crate::reference::print::print;
 
 /// Kinds of stores.
@@ -77,7 +77,8 @@ fn long_document(random: &mut Random) -> Document {
 
 /// A byte that may stand somewhere in a store, or any.
 fn likely_byte(random: &mut Random) -> u8 {
-    const LIKELY: [u8; 14] = [0, 1, 1, 2, 3, 4, 5, 6, 11, 15, 16, 159, 160, 255];
+    const LAST: u8 = LAST_NUMBER as u8;
+    const LIKELY: [u8; 14] = [0, 1, 1, 2, 3, 4, 5, 6, 11, 15, 16, LAST, LAST + 1, 255];
     if random.chance(1, 4) {
         random.below(256) as u8
     } else {

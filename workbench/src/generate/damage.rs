@@ -51,9 +51,8 @@ pub fn edit_byte(random: &mut Random, mut file: Vec<u8>) -> Vec<u8> {
 
 /// Puts a boundary number or a wrong spelling in place of a number.
 pub fn edit_number(random: &mut Random, file: Vec<u8>) -> Vec<u8> {
-    const SPELLINGS: [&str; 19] = [
-        "0", "1", "2", "7", "10", "158", "159", "159", "160", "160", "160", "161", "200", "999",
-        "00", "01", "007", "1000", "",
+    const SPELLINGS: [&str; 12] = [
+        "0", "1", "2", "7", "10", "200", "999", "00", "01", "007", "1000", "",
     ];
     let numbers = number_places(&file);
     let Some(place) = random.pick(&numbers).cloned() else {
@@ -66,9 +65,15 @@ pub fn edit_number(random: &mut Random, file: Vec<u8>) -> Vec<u8> {
             file[other].to_vec()
         }
         1 => random.below(20).to_string().into_bytes(),
+        2 => near_limit(random).into_bytes(),
         _ => SPELLINGS[random.below(SPELLINGS.len())].as_bytes().to_vec(),
     };
     [&file[..place.start], &spelling, &file[place.end..]].concat()
+}
+
+/// A number next to the last that a row or a name may have.
+fn near_limit(random: &mut Random) -> String {
+    (LAST_NUMBER - 1 + random.below(4)).to_string()
 }
 
 /// Changes the members of a written set.
@@ -99,7 +104,8 @@ pub fn edit_set(random: &mut Random, file: Vec<u8>) -> Vec<u8> {
             let member = members[random.below(members.len())].clone();
             members.insert(at, member);
         }
-        6 => members.push(["159", "160", "0", "999"][random.below(4)].to_string()),
+        6 if random.chance(1, 2) => members.push(near_limit(random)),
+        6 => members.push(["0", "999"][random.below(2)].to_string()),
         _ => {
             members.push(random.below(20).to_string());
             random.shuffle(&mut members);
@@ -180,10 +186,10 @@ pub fn edit_lines(random: &mut Random, file: Vec<u8>) -> Vec<u8> {
 /// A line of any kind with any numbers, mostly well-formed.
 fn crafted_line(random: &mut Random) -> Vec<u8> {
     let mut number = || {
-        let odd = ["159", "160", "999", "00", "1000"];
+        let odd = ["999", "00", "1000"];
         match random.below(12) {
             0 => odd[random.below(odd.len())].to_string(),
-            1 => LAST_NUMBER.to_string(),
+            1 => near_limit(random),
             _ => random.below(16).to_string(),
         }
     };

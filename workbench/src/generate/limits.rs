@@ -3,7 +3,7 @@
 use std::collections::BTreeSet;
 
 use super::{claim_anything, widen, Random, Tables};
-use crate::reference::document::{Bind, Document, Form, Row, LAST_NUMBER};
+use crate::reference::document::{Bind, Document, Form, Row, LAST_NUMBER, NUMBER_LIMIT};
 use crate::reference::print::{print, set_text};
 
 /// So many rows, all chan but the last.
@@ -20,19 +20,19 @@ pub fn chain(count: usize) -> Document {
     document
 }
 
-/// A document with 160 rows and 160 names, few sets and some claims.
+/// A document with as many rows and names as there can be, few sets and some claims.
 pub fn full_document(random: &mut Random) -> Document {
-    let mut document = chain(LAST_NUMBER + 1);
+    let mut document = chain(NUMBER_LIMIT);
     // The last bind becomes a function, which binds two names more; its body is
     // the row before the last.
     let first = random.below(3);
     for (row, content) in document.rows.iter_mut().enumerate() {
         if let Row::Bind(bind) = content {
-            bind.name = (bind.name + first) % (LAST_NUMBER + 1);
+            bind.name = (bind.name + first) % NUMBER_LIMIT;
             if row == LAST_NUMBER - 2 {
                 bind.form = Form::Fun {
-                    own: (158 + first) % (LAST_NUMBER + 1),
-                    parameter: (159 + first) % (LAST_NUMBER + 1),
+                    own: (LAST_NUMBER - 1 + first) % NUMBER_LIMIT,
+                    parameter: (LAST_NUMBER + first) % NUMBER_LIMIT,
                     body: row + 1,
                 };
                 bind.rest = row + 2;
@@ -55,7 +55,7 @@ pub fn full_document(random: &mut Random) -> Document {
 /// A file of 160 rows, of exactly so many bytes, at least 8,000 and at most
 /// 90,000. Its tables keep the flow rules; load takes it if it is short enough.
 pub fn file_of_length(random: &mut Random, length: usize) -> Vec<u8> {
-    let mut document = chain(LAST_NUMBER + 1);
+    let mut document = chain(NUMBER_LIMIT);
     Tables::empty().close(&document.rows).put(&mut document);
     let mut bytes = print(&document).len();
     // Sets are filled, in any order, until the file is long enough.

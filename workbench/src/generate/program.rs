@@ -5,7 +5,7 @@ use std::mem::discriminant;
 use std::rc::Rc;
 
 use super::{Random, Size};
-use crate::reference::document::{Bind, Branch, Form, Name, Part, Row, LAST_NUMBER};
+use crate::reference::document::{Bind, Branch, Form, Name, Part, Row, NUMBER_LIMIT};
 
 /// What a name probably has. It only steers the choice of names; sets and
 /// verdicts never rest on it.
@@ -97,14 +97,14 @@ struct Writer<'a> {
 
 /// The rows of a program that load takes.
 pub fn program(random: &mut Random, size: Size) -> Vec<Row> {
-    let mut free_names: Vec<Name> = (0..size.names.min(LAST_NUMBER + 1)).collect();
+    let mut free_names: Vec<Name> = (0..size.names.min(NUMBER_LIMIT)).collect();
     if random.chance(1, 2) {
         free_names.reverse();
     } else {
         random.shuffle(&mut free_names);
     }
     let size = Size {
-        rows: size.rows.clamp(2, LAST_NUMBER + 1),
+        rows: size.rows.clamp(2, NUMBER_LIMIT),
         names: size.names,
     };
     let bent = match random.below(5) {

@@ -1,7 +1,9 @@
 //! Programs of any number of rows, to see how time grows, and the hardest ones.
 
 use super::Tables;
-use crate::reference::document::{Bind, Claim, Comm, Document, Flow, Form, Name, Row, Set, Word};
+use crate::reference::document::{
+    Bind, Claim, Comm, Document, Flow, Form, Name, Row, Set, Word, NUMBER_LIMIT,
+};
 
 /// Rows in a chain of rests, each with a name of its own, and a result.
 fn straight(forms: Vec<Form>) -> Vec<Row> {
@@ -103,10 +105,10 @@ pub fn shared(rows: usize) -> Document {
     document
 }
 
-/// The densest tables: the hardest program of 160 rows with every value in every
-/// set. Its text is too long for a file.
+/// The densest tables: the hardest program of as many rows as there can be, with
+/// every value in every set. Its text is too long for a file.
 pub fn dense() -> Document {
-    let mut document = shared(160);
+    let mut document = shared(NUMBER_LIMIT);
     let values = (0..document.rows.len()).filter(|&row| document.is_value_row(row));
     let all = Set {
         unit: true,

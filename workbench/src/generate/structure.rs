@@ -14,7 +14,7 @@ pub fn break_structure(random: &mut Random, document: &mut Document) {
             let target = match random.below(6) {
                 0 => row,
                 1 => count,
-                2 => [0, 159, count + 1][random.below(3)],
+                2 => [0, LAST_NUMBER, count + 1][random.below(3)],
                 _ => random.below(count),
             };
             replace_one(

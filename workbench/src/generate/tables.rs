@@ -1,7 +1,7 @@
 //! Tables: the least ones by growing them, and wider and narrower ones.
 
 use super::Random;
-use crate::reference::document::{Comm, Document, Flow, Form, Name, Row, Set, LAST_NUMBER};
+use crate::reference::document::{Comm, Document, Flow, Form, Name, Row, Set, NUMBER_LIMIT};
 
 /// The sets of all names and channels, by number.
 #[derive(Clone)]
@@ -13,8 +13,8 @@ pub struct Tables {
 impl Tables {
     pub fn empty() -> Tables {
         Tables {
-            values: vec![Set::default(); LAST_NUMBER + 1],
-            messages: vec![Set::default(); LAST_NUMBER + 1],
+            values: vec![Set::default(); NUMBER_LIMIT],
+            messages: vec![Set::default(); NUMBER_LIMIT],
         }
     }
 

@@ -13,6 +13,8 @@ use std::collections::BTreeSet;
 
 /// The greatest number of a row or a name.
 pub const LAST_NUMBER: usize = 159;
+/// Rows and names are numbered below this.
+pub const NUMBER_LIMIT: usize = LAST_NUMBER + 1;
 /// The most bytes of a file.
 pub const MAX_FILE_BYTES: usize = 32_768;
 
