@@ -1,9 +1,12 @@
 -- Small programs, by computation: the slips that document 01 names, and runs.
 use Prim.Native.Nat.{ℕ, zero, suc}
 use native.Mathlib.Decide.{ℕ-discrete}
-use mathlib.Core.Bool.{Bool, true, false, _||_}
+use native.Mathlib.Omega.{arith}
+use mathlib.Core.Bool.{Bool, true, false, _||_, false≢true}
 use mathlib.Core.List.{List, [], _∷_, map}
-use mathlib.Core.Path.{_≡_, refl}
+use mathlib.Core.Logic.{⊎-elim}
+use mathlib.Core.Option.{Option, none, some}
+use mathlib.Core.Path.{_≡_, refl, sym, _∙_}
 use lib.ListN.{getD, length}
 use lib.Dec.{eqb}
 use Rattle.program.specs.declared.Row.{Row}
@@ -13,14 +16,18 @@ use Rattle.program.specs.declared.Form.the-variants.{Chan, Send, Recv, L
 use Rattle.program.specs.declared.Word.the-variants.{OneShot, OneToOne, FanOut, FanIn}
 use Rattle.program.specs.Test.{all, any, test, either?}
 use Rattle.program.specs.Maybe.{_>>=_, when, has, given, provided, _<|>_}
-use Rattle.program.specs.Each.{every}
-use Rattle.program.specs.Snoc.{ε, _▷_, begins?, continues?}
+use Rattle.program.specs.Each.{Member, here, there, every}
+use Rattle.program.specs.Snoc.{ε, _▷_, Snoc-discrete, Ordered, begins?, continues?}
 use Rattle.program.specs.Program.{Program, rowAt, bindOf, bindAt, formAt, chanAt, sendAt, recvAt, pairAt, leftAt, rightAt, funAt, syncAt, forkAt, resultFrom, resultRow, nameOf, resultName}
 use Rattle.program.specs.Flow.{Abstract, u, row, Table, forEach, forEachChan, lies, sendRule, recvRule, keepsForm, keepsAt}
 use Rattle.program.specs.Walk.{someCalled, toRest, toChild, toCalled, toCaller, edge, sendPlace, receivePlace}
 use Rattle.program.specs.Closure.{cell, table, join, through, closure, grid, closed}
 use Rattle.program.specs.Verdict.{reach, reached, leads, inARow, rivals, verdict}
-use Rattle.program.specs.Run.{next, spawn, call, lookup, closureOf, channelOf, closureAt, proceed, enter, start, formMoves, resultMoves, moves, event, sendsOn, offer, receivesOn, stateOf, leaf, leafState, lengthen, Step, own, meet, added, step, after, startPool, run}
+use Rattle.program.specs.Run.{Path, next, spawn, call, sameLabel, Instance, made, State, Pool, lookup, closureOf, channelOf, closureAt, proceed, enter, start, formMoves, resultMoves, moves, event, sendsOn, message, offer, receivesOn, stateOf, leaf, leafState, lengthen, Step, own, meet, added, step, after, startPool, run}
+use Rattle.program.specs.Topology.{Fits}
+use Rattle.program.specs.History.{AtSend, AtReceive, HistoryFits}
+use Rattle.program.proofs.Maybe.{bind-elim}
+use Rattle.program.proofs.Test.{test-intro}
 
 -- sets and tables as lists
 same : Abstract → Abstract → Bool
@@ -68,7 +75,7 @@ verdicts s =
 
 -- the rows of the pool that a list of steps leaves
 ran : Sample → List Step → List ℕ
-unfolding run after step added startPool lengthen leafState leaf stateOf moves formMoves resultMoves proceed enter start event sendsOn offer receivesOn lookup closureOf channelOf closureAt given provided _>>=_ _<|>_ test continues? begins? every either? rowAt bindAt bindOf syncAt sendAt recvAt formAt pairAt leftAt rightAt funAt ℕ-discrete
+unfolding run after step added startPool lengthen leafState leaf stateOf moves formMoves resultMoves proceed enter start event sendsOn message offer receivesOn lookup closureOf channelOf closureAt given provided _>>=_ _<|>_ test continues? begins? every either? rowAt bindAt bindOf syncAt sendAt recvAt formAt pairAt leftAt rightAt funAt ℕ-discrete
 ran s ss = map (λ t. t .state .row) (run (s .rows) ss)
 
 -- example A: a child receives what its parent sends
@@ -159,3 +166,102 @@ meeting = refl
 applying : ran recursive (own ε ∷ own (ε ▷ next 0) ∷ own (ε ▷ next 0 ▷ next 1) ∷ own (ε ▷ next 0 ▷ next 1 ▷ call 5) ∷ []) ≡ (2 ∷ 2 ∷ 4 ∷ 1 ∷ 0 ∷ [])
 unfolding ran recursive
 applying = refl
+
+-- ---- histories: where threads stand, and histories that break a word
+
+-- a path that has a state is in the pool with it
+member-of : (ts : Pool) (path : Path) (st : State) → stateOf ts path ≡ some st → Member (record { path = path; state = st }) ts
+unfolding stateOf
+member-of [] path st e = let z : _≡_ {A = ℕ} 0 1 = cc in absurd (omega arith)
+member-of (t ∷ ts) path st e = go (Snoc-discrete sameLabel (t .path) path) (member-of ts path st) e
+  where
+    go : (d : Dec (t .path ≡ path)) → (stateOf ts path ≡ some st → Member (record { path = path; state = st }) ts)
+        → _≡_ {A = Option State} (elim d [ yes q ↦ some (t .state) | no n ↦ stateOf ts path ]) (some st) → Member (record { path = path; state = st }) (t ∷ ts)
+    go (yes q) more h =
+        let same : t .state ≡ st = cc in
+        here (λ i. record { path = sym q i; state = sym same i })
+    go (no n) more h = there (more h)
+
+-- two paths of which neither begins the other
+Apart : Path → Path → Type 0
+Apart x y = (test (Snoc-discrete sameLabel x y) ≡ false) × (test (begins? sameLabel x y) ≡ false) × (test (begins? sameLabel y x) ≡ false)
+
+unordered : (x y : Path) → Apart x y → ¬ (Ordered x y)
+unfolding Apart
+unordered x y (d, a, b) = ⊎-elim (λ h. false≢true (sym a ∙ test-intro _ h)) (λ h. false≢true (sym b ∙ test-intro _ h))
+
+module _ (p : Program) (pool : Pool) (i : Instance) where
+  at-send : (path : Path) → (stateOf pool path >>= sendsOn p) ≡ some i → AtSend p pool i path
+  unfolding AtSend
+  at-send path e = let (st, q, h) = bind-elim (stateOf pool path) (sendsOn p) e in (st, member-of pool path st q, h)
+
+  at-receive : (path : Path) → (stateOf pool path >>= receivesOn p) ≡ some i → AtReceive p pool i path
+  unfolding AtReceive
+  at-receive path e = let (st, q, h) = bind-elim (stateOf pool path) (receivesOn p) e in (st, member-of pool path st q, h)
+
+  -- two senders apart break one-shot, fan-out and one-to-one, two receivers apart fan-in and one-to-one
+  module _ (x y : Path) (apart : Apart x y) where
+    two-senders : AtSend p pool i x → AtSend p pool i y → ¬ (HistoryFits p pool i OneShot) × ¬ (HistoryFits p pool i FanOut) × ¬ (HistoryFits p pool i OneToOne)
+    unfolding HistoryFits Fits Apart
+    two-senders a b = (
+      λ h. false≢true (sym (apart .0) ∙ test-intro _ (h x y tt a b)),
+      λ h. unordered x y apart (h x y tt a b),
+      λ h. unordered x y apart (h .0 x y tt a b),
+    )
+
+    two-receivers : AtReceive p pool i x → AtReceive p pool i y → ¬ (HistoryFits p pool i FanIn) × ¬ (HistoryFits p pool i OneToOne)
+    unfolding HistoryFits Fits
+    two-receivers a b = (λ h. unordered x y apart (h x y tt a b), λ h. unordered x y apart (h .1 x y tt a b))
+
+-- parent and child both receive
+bothReceive : Sample
+unfolding bind
+bothReceive = record {
+  rows = bind 0 Form.Unit 1 ∷ bind 1 Chan 2 ∷ bind 2 (Recv 1) 3 ∷ bind 3 (Spawn 4) 6 ∷ bind 4 (Sync 2) 5 ∷ Row.Result 4 ∷ bind 5 (Sync 2) 7 ∷ Row.Result 5 ∷ [];
+  flow = (u ∷ []) ∷ (row 1 ∷ []) ∷ (row 2 ∷ []) ∷ (u ∷ []) ∷ [] ∷ [] ∷ [];
+}
+
+-- the instance that a run's first thread makes at row 1
+jam : Instance
+jam = made (ε ▷ next 0) 1
+
+-- after some steps, for each path the instance that it stands at a send on, and the one that it stands at a receive on
+standing : Sample → List Step → List Path → List (Option Instance × Option Instance)
+unfolding ran jam
+standing s ss paths = map (λ path. (stateOf (run (s .rows) ss) path >>= sendsOn (s .rows), stateOf (run (s .rows) ss) path >>= receivesOn (s .rows))) paths
+
+-- of example A: the parent stands at a send and the child at a receive
+beforeMeeting : standing oneShot
+    (own ε ∷ own (ε ▷ next 0) ∷ own (ε ▷ next 0 ▷ next 1) ∷ own (ε ▷ next 0 ▷ next 1 ▷ next 2) ∷ own (ε ▷ next 0 ▷ next 1 ▷ spawn 2) ∷ [])
+    ((ε ▷ next 0 ▷ next 1 ▷ next 2 ▷ next 5) ∷ (ε ▷ next 0 ▷ next 1 ▷ spawn 2 ▷ next 3) ∷ (ε ▷ next 0) ∷ []) ≡ ((some jam, none) ∷ (none, some jam) ∷ (none, none) ∷ [])
+unfolding standing oneShot
+beforeMeeting = refl
+
+-- the steps up to where a parent and the child that it spawned at row 3 both stand at their syncs
+apartSteps : List Step
+apartSteps = own ε ∷ own (ε ▷ next 0) ∷ own (ε ▷ next 0 ▷ next 1) ∷ own (ε ▷ next 0 ▷ next 1 ▷ next 2) ∷ []
+
+parent : Path
+parent = ε ▷ next 0 ▷ next 1 ▷ next 2 ▷ next 3
+
+child : Path
+child = ε ▷ next 0 ▷ next 1 ▷ next 2 ▷ spawn 3
+
+parted : Apart parent child
+unfolding Apart parent child begins? either? test ℕ-discrete
+parted = (refl, refl, refl)
+
+-- the history of a program in which both send breaks one-shot, fan-out and one-to-one
+senders-break :
+    let history = HistoryFits (atOnce .rows) (run (atOnce .rows) apartSteps) jam in
+    ¬ (history OneShot) × ¬ (history FanOut) × ¬ (history OneToOne)
+unfolding standing atOnce apartSteps parent child
+senders-break = two-senders (atOnce .rows) (run (atOnce .rows) apartSteps) jam parent child parted (at-send _ _ _ parent refl) (at-send _ _ _ child refl)
+
+-- and that of one in which both receive breaks fan-in and one-to-one
+receivers-break :
+    let history = HistoryFits (bothReceive .rows) (run (bothReceive .rows) apartSteps) jam in
+    ¬ (history FanIn) × ¬ (history OneToOne)
+unfolding standing bothReceive apartSteps parent child
+receivers-break =
+    two-receivers (bothReceive .rows) (run (bothReceive .rows) apartSteps) jam parent child parted (at-receive _ _ _ parent refl) (at-receive _ _ _ child refl)

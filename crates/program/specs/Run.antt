@@ -150,16 +150,21 @@ module _ (p : Program) (st : State) where
   unfoldable pub sendsOn : Option Instance
   sendsOn = do
     (r, env) ← event
-    (c, m) ← sendAt p r
+    (c, _) ← sendAt p r
     lookup env c >>= channelOf
 
-  -- the instance with the message
+  -- "the message, the value of the send's M"
+  unfoldable pub message : Option Value
+  message = do
+    (r, env) ← event
+    (_, m) ← sendAt p r
+    lookup env m
+
+  -- what a sender brings to a meeting: the instance that it sends on, and the message
   unfoldable pub offer : Option (Instance × Value)
   offer = do
-    (r, env) ← event
-    (c, m) ← sendAt p r
-    i ← lookup env c >>= channelOf
-    v ← lookup env m
+    i ← sendsOn
+    v ← message
     some (i, v)
 
   unfoldable pub receivesOn : Option Instance

@@ -9,9 +9,9 @@ use Rattle.program.specs.declared.Form.the-variants.{Sync}
 use Rattle.program.specs.Flow.{u, row, Table, lies, keepsForm, sendRule, recvRule, keepsAll}
 use Rattle.program.specs.Maybe.{_>>=_}
 use Rattle.program.specs.Program.{Program, bindAt, chanAt, syncAt, sendAt, recvAt}
-use Rattle.program.specs.Run.{Instance, chanName, Value, Env, State, event, sendsOn, offer, receivesOn}
+use Rattle.program.specs.Run.{Instance, chanName, Value, Env, lookup, State, event, sendsOn, message, offer, receivesOn}
 use Rattle.program.specs.Walk.{plain, sendPlace, receivePlace}
-use Rattle.program.proofs.Maybe.{Found, found, found-self, found-bind, found-map, found-at, found-when, has-intro}
+use Rattle.program.proofs.Maybe.{Found, found, found-self, found-both, found-bind, found-map, found-at, found-when, has-intro}
 use Rattle.program.proofs.Sound.Edges.{form-at}
 use Rattle.program.proofs.Sound.Forms.{sync-form}
 use Rattle.program.proofs.Sound.Shape.{chan-unique}
@@ -97,20 +97,55 @@ module _ (p : Program) (flow comm : Table) (keeps : So (keepsAll p flow comm)) (
   sync-plain : (e : ℕ) → b .form ≡ Sync e → So (plain (b .form))
   sync-plain e q = rw q
 
+  -- the send behind an instance that is sent on: its row and environment, its C and M, and a row of C's set that the instance is of
+  record Sending (i : Instance) : Type 0 where
+    sendRow : ℕ
+    env : Env
+    onto : ℕ
+    what : ℕ
+    here : event p st ≡ some (sendRow, env)
+    send : sendAt p sendRow ≡ some (onto, what)
+    ruled : Ruled (sendRow, env)
+    chanRow : ℕ
+    chan : chanAt p chanRow ≡ some (chanName i)
+    among : So (flow onto (row chanRow))
+
+  sending : Found Sending (sendsOn p st)
+  unfolding sendsOn
+  sending =
+      found-bind (found-both (found-self (event p st)) event-rule) λ (r, env) (h, e).
+      found-bind (found-self (sendAt p r)) λ (x, m) q.
+      found-map (λ i (k, chan, l). record {
+        sendRow = r;
+        env = env;
+        onto = x;
+        what = m;
+        here = h;
+        send = q;
+        ruled = e;
+        chanRow = k;
+        chan = chan;
+        among = l;
+      })
+      (channel-covered p flow env x (e .env))
+
+  message-is : {i : Instance} (s : Sending i) → message p st ≡ lookup (s .env) (s .what)
+  unfolding message _>>=_
+  message-is s = rw (s .here, s .send) refl
+
   pub offers : Found (Offers p flow comm b) (offer p st)
   unfolding offer sendRule
   offers =
-      found-bind event-rule λ (r, env) e.
-      found-bind (found-when _ (sendAt p r) (e .sends)) λ (x, m) rule.
-      found-bind (channel-covered p flow env x (e .env)) λ i (k, chan, l).
-      found-bind (lookup-covered p flow env m (e .env)) λ v (h, value).
-      let both = each-chan-elim p (flow x) _ rule (chanName i) k chan l in
+      found-bind sending λ i s.
+      found-bind (rw (← message-is s) at (lookup-covered p flow (s .env) (s .what) (s .ruled .env))) λ v (h, value).
+      let rule = found-at (s .send) (found-when _ (sendAt p (s .sendRow)) (s .ruled .sends)) in
+      let both = each-chan-elim p (flow (s .onto)) _ rule (chanName i) (s .chanRow) (s .chan) (s .among) in
       found (record {
-        onward = sync-plain (e .sync .0) (e .sync .1);
+        onward = sync-plain (s .ruled .sync .0) (s .ruled .sync .1);
         takesUnit = search and-left;
-        chanRow = k;
-        chan = chan;
-        message = lies-elim p flow (flow m) (comm k) (search and-right) v value h;
+        chanRow = s .chanRow;
+        chan = s .chan;
+        message = lies-elim p flow (flow (s .what)) (comm (s .chanRow)) (search and-right) v value h;
         value = value;
       })
 
