@@ -39,7 +39,8 @@ use Rattle.calls.specs.Layout.{storeSize, encode, decode, same}
 use Rattle.calls.specs.Judging.{verdictWords, flowTable, commTable, wordHolds, WordHolds, reaches, failingRow, after10, judgeDocument, verdictDocument}
 use Rattle.calls.specs.Calls.{Outcome, unsound, isEmpty, openedFixed, opened, counts, refilled, loaded, load, judgeAnswered, andThen, judge, verdictOf, verdictGiven, verdict, written, write}
 use Rattle.calls.proofs.Codec.{encode-length, decode-encode, unsound-iff, opened-encode}
-use Rattle.calls.proofs.Judging.{rows-well, row-iff, ClaimHolds, accepts-iff, RowKeeps}
+use Rattle.calls.proofs.Judging.{rows-well, row-iff, accepts-iff}
+use Rattle.calls.specs.Exact.{RowKeeps, ClaimHolds}
 
 -- ---- a store that is long enough
 
@@ -113,7 +114,7 @@ unfolding loaded refilled
 load-keeps d w s store l = ap (λ (o : Outcome LoadAnswer). o .bytes) (load-long (documentText d) store l) ∙ rw (check-iff (documentText d) d .1 (refl, w, s))
 
 -- the document that an accepted load leaves in the store
-loaded-is : (file store : Bytes) (c : Counts) → load file store .answer ≡ LoadAnswer.Loaded c
+pub loaded-is : (file store : Bytes) (c : Counts) → load file store .answer ≡ LoadAnswer.Loaded c
     → (d : Document) × (file ≡ documentText d) × So (wellFormed d) × (length file ≤ byteLimit) × (c ≡ counts d) × (load file store .bytes ≡ encode d ++ drop storeSize store)
 loaded-is file store c e =
     let l = long-enough file store c e in
@@ -125,7 +126,7 @@ unfolding wellFormed
 orderly-of d w = and-left (orderly d) _ w
 
 -- a store that begins with a document's bytes opens to the document
-opened-loaded : (d : Document) → So (wellFormed d) → (rest : Bytes) → opened (encode d ++ rest) ≡ accepted d
+pub opened-loaded : (d : Document) → So (wellFormed d) → (rest : Bytes) → opened (encode d ++ rest) ≡ accepted d
 unfolding opened
 opened-loaded d w rest =
     let n : length (encode d) ≡ storeSize = encode-length d (orderly-of d w) in
@@ -133,12 +134,12 @@ opened-loaded d w rest =
     rw (le-ltb (length (encode d ++ rest)) storeSize l, opened) (rw (take-at (encode d) rest storeSize n) (opened-encode d w))
 
 -- and only such a store does
-record Opened (store : Bytes) (d : Document) : Type 0 where
-  long : storeSize ≤ length store
-  well : So (wellFormed d)
-  holds : take storeSize store ≡ encode d
+pub record Opened (store : Bytes) (d : Document) : Type 0 where
+  pub long : storeSize ≤ length store
+  pub well : So (wellFormed d)
+  pub holds : take storeSize store ≡ encode d
 
-opened-is : (store : Bytes) (d : Document) → opened store ≡ accepted d → Opened store d
+pub opened-is : (store : Bytes) (d : Document) → opened store ≡ accepted d → Opened store d
 unfolding opened openedFixed
 opened-is store d e = go (ltb (length store) storeSize) (isEmpty (take storeSize store)) (unsound (take storeSize store)) refl refl e
   where
@@ -220,11 +221,11 @@ load-write store out other n e s l = from-opened (opened store) refl
 
 -- ---- judge
 
-judge-opened : (store : Bytes) (d : Document) → opened store ≡ accepted d → judge store ≡ judgeAnswered (judgeDocument d)
+pub judge-opened : (store : Bytes) (d : Document) → opened store ≡ accepted d → judge store ≡ judgeAnswered (judgeDocument d)
 unfolding judge andThen
 judge-opened store d e = rw e
 
-judged-iff : (r : Result ℕ) (n : ℕ) → (judgeAnswered r ≡ JudgeAnswer.Accepted n) ↔ (r ≡ accepted n)
+pub judged-iff : (r : Result ℕ) (n : ℕ) → (judgeAnswered r ≡ JudgeAnswer.Accepted n) ↔ (r ≡ accepted n)
 unfolding judgeAnswered
 judged-iff (refused r) n = (λ e. let z : _≡_ {A = ℕ} 0 1 = cc in absurd (omega arith), λ e. let z : _≡_ {A = ℕ} 0 1 = cc in absurd (omega arith))
 judged-iff (accepted m) n = (λ e. let q : m ≡ n = cc in ap accepted q, λ e. let q : m ≡ n = cc in ap JudgeAnswer.Accepted q)

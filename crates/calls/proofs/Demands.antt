@@ -1,52 +1,50 @@
--- The demands, as theorems about the definitions of the calls. Their proofs stand in `Calls` beside this file; here is what they say.
+-- The demands, as theorems about the definitions of the calls, in document 01's numbers and values (specs/Answers). Their proofs stand in `Calls`, `Exact` and `Numbers` beside this file; here is what they say.
 use Prim.Native.Nat.{ℕ, _≤_, _<_}
-use mathlib.Core.Bool.{Bool, true, false, So}
-use mathlib.Core.List.{List, _++_, map}
+use mathlib.Core.Bool.{false, So}
+use mathlib.Core.List.{List, [], _∷_, _++_}
 use mathlib.Core.Option.{some}
 use mathlib.Core.Path.{_≡_}
 use mathlib.Core.Logic.{_↔_}
 use lib.ListN.{length, take, drop, replicate}
-use Rattle.program.specs.Each.{Member, Each}
+use Rattle.program.specs.Each.{Member}
 use Rattle.program.specs.declared.Word.{Word}
-use Rattle.program.specs.Program.{chanAt, chanRow}
-use Rattle.program.specs.FlowRule.{KeepsAll}
+use Rattle.program.specs.Program.{chanAt}
 use Rattle.program.specs.Run.{Path, made, Step, run}
 use Rattle.program.specs.History.{HistoryFits}
-use Rattle.format.specs.declared.Refusal.{Refusal}
 use Rattle.format.specs.Limits.{byteLimit}
 use Rattle.format.specs.Text.{Bytes}
-use Rattle.format.specs.Refusals.{Result, accepted}
+use Rattle.format.specs.Refusals.{accepted}
 use Rattle.format.specs.Document.{Claim, Document}
 use Rattle.format.specs.Print.{documentText}
 use Rattle.format.specs.WellFormed.{wellFormed}
 use Rattle.format.specs.Check.{checkAny}
-use Rattle.calls.specs.declared.Counts.{Counts}
-use Rattle.calls.specs.declared.LoadAnswer.{LoadAnswer}
-use Rattle.calls.specs.declared.JudgeAnswer.{JudgeAnswer}
-use Rattle.calls.specs.declared.WriteAnswer.{WriteAnswer}
-use Rattle.calls.specs.declared.VerdictStatus.{VerdictStatus}
-use Rattle.calls.specs.declared.VerdictAnswer.{VerdictAnswer}
+use Rattle.calls.specs.Answers.{turnedBack, answered, loadAnswer, judgeAnswer, verdictAnswer, writeAnswer}
 use Rattle.calls.specs.Layout.{storeSize, encode}
-use Rattle.calls.specs.Judging.{verdictWords, flowTable, commTable, wordHolds, WordHolds, reaches}
-use Rattle.calls.specs.Calls.{load, judge, verdict, write, counts, opened, unsound}
-use Rattle.calls.proofs.Judging.{word-iff}
+use Rattle.calls.specs.Judging.{wordHolds, WordHolds, reaches}
+use Rattle.calls.specs.Calls.{load, judge, verdict, write, unsound}
+use Rattle.calls.specs.Exact.{StoreHolds, RulesHold, ClaimsHold, JudgeIs, VerdictIs}
+use Rattle.calls.proofs.Judging as judging
 use Rattle.calls.proofs.Calls as the
+use Rattle.calls.proofs.Exact as exact
+use Rattle.calls.proofs.Numbers as numbers
 
 -- Demand 1: "a load refused for its file leaves the store empty, and every other refused call alters no lent byte"
-pub load-refused : (file store : Bytes) (r : Refusal) → load file store .answer ≡ LoadAnswer.Refused r → storeSize ≤ length store
+pub load-refused : (file store : Bytes) (n line : ℕ) → loadAnswer (load file store .answer) ≡ turnedBack n line → storeSize ≤ length store
     → load file store .bytes ≡ replicate storeSize 0 ++ drop storeSize store
-load-refused = the.load-refused
+load-refused = numbers.load-refused
 
-pub load-too-short : (file store : Bytes) → length store < storeSize → load file store .bytes ≡ store
-load-too-short = the.load-too-short
+pub load-too-short : (file store : Bytes) → length store < storeSize → (loadAnswer (load file store .answer) ≡ turnedBack 20 0) × (load file store .bytes ≡ store)
+load-too-short = numbers.load-too-short
 
-pub write-refused : (store out : Bytes) (r : Refusal) → write store out .answer ≡ WriteAnswer.Refused r → write store out .bytes ≡ out
-write-refused = the.write-refused
+pub write-refused : (store out : Bytes) (n line : ℕ) → writeAnswer (write store out .answer) ≡ turnedBack n line → write store out .bytes ≡ out
+write-refused = numbers.write-refused
 
--- Demand 2: "Load takes exactly the files that document 01 describes", and the store then holds the file's document
-pub load-takes : (file store : Bytes) → storeSize ≤ length store → (c : Counts)
-    → (load file store .answer ≡ LoadAnswer.Loaded c) ↔ ((d : Document) × (file ≡ documentText d) × So (wellFormed d) × (length file ≤ byteLimit) × (c ≡ counts d))
-load-takes = the.load-takes
+-- Demand 2: "Load takes exactly the files that document 01 describes", answers "the counts of row, flow, comm and claim lines", and the store then holds the file's document
+pub load-takes : (file store : Bytes) → storeSize ≤ length store → (ns : List ℕ)
+    → (loadAnswer (load file store .answer) ≡ answered ns)
+    ↔ ((d : Document) × (file ≡ documentText d) × So (wellFormed d) × (length file ≤ byteLimit)
+    × (ns ≡ (length (d .rows) ∷ length (d .flows) ∷ length (d .comms) ∷ length (d .claims) ∷ [])))
+load-takes = numbers.load-takes
 
 pub load-keeps : (d : Document) → So (wellFormed d) → length (documentText d) ≤ byteLimit → (store : Bytes) → storeSize ≤ length store
     → load (documentText d) store .bytes ≡ encode d ++ drop storeSize store
@@ -57,31 +55,40 @@ pub sound-iff : (fixed : Bytes) → (unsound fixed ≡ false) ↔ ((file : Bytes
 sound-iff = the.sound-iff
 
 -- "Writing a loaded store gives back the file's bytes"
-pub write-load : (file store out : Bytes) (c : Counts) → load file store .answer ≡ LoadAnswer.Loaded c → length file ≤ length out
-    → (write (load file store .bytes) out .answer ≡ WriteAnswer.Written (length file)) × (write (load file store .bytes) out .bytes ≡ file ++ drop (length file) out)
-write-load = the.write-load
+pub write-load : (file store out : Bytes) (ns : List ℕ) → loadAnswer (load file store .answer) ≡ answered ns → length file ≤ length out
+    → (writeAnswer (write (load file store .bytes) out .answer) ≡ answered (length file ∷ [])) × (write (load file store .bytes) out .bytes ≡ file ++ drop (length file) out)
+write-load = numbers.write-load
 
 -- "and loading these gives back the store"
-pub load-write : (store out other : Bytes) (n : ℕ) → write store out .answer ≡ WriteAnswer.Written n → n ≤ byteLimit → storeSize ≤ length other
+pub load-write : (store out other : Bytes) (n : ℕ) → writeAnswer (write store out .answer) ≡ answered (n ∷ []) → n ≤ byteLimit → storeSize ≤ length other
     → load (take n (write store out .bytes)) other .bytes ≡ take storeSize store ++ drop storeSize other
-load-write = the.load-write
+load-write = numbers.load-write
 
--- "Judge accepts exactly if the tables keep the flow rules .. and every claim holds over all pairs of walks that can share a run"
-pub judge-accepts : (store : Bytes) (d : Document) → opened store ≡ accepted d → (n : ℕ)
-    → (judge store ≡ JudgeAnswer.Accepted n) ↔ (KeepsAll (d .rows) (flowTable d) (commTable d) × Each (λ (k : Claim). WordHolds d (k .channel) (k .word)) (d .claims) × (n ≡ length (d .claims)))
-judge-accepts = the.judge-accepts
+-- "Judge accepts exactly if the tables keep the flow rules .. and every claim holds over all pairs of walks that can share a run": of any store, and of the store that load left of a file
+pub judge-accepts : (store : Bytes) (n : ℕ)
+    → (judgeAnswer (judge store) ≡ answered (n ∷ [])) ↔ ((d : Document) × StoreHolds store d × RulesHold d × ClaimsHold d × (n ≡ length (d .claims)))
+judge-accepts = exact.judge-accepts-iff
 
--- a verdict's words, where the tables keep the flow rules; and each is yes exactly if the word holds over all pairs of walks that can share a run
-pub verdict-words : (store : Bytes) (d : Document) (c : ℕ) → opened store ≡ accepted d → So (chanRow (d .rows) c) → KeepsAll (d .rows) (flowTable d) (commTable d)
-    → verdict store c ≡ record { status = VerdictStatus.Given; words = map (wordHolds d (reaches d) c) verdictWords }
-verdict-words = the.verdict-words
+pub judge-loaded : (file store : Bytes) (ns : List ℕ) → loadAnswer (load file store .answer) ≡ answered ns → (n : ℕ)
+    → (judgeAnswer (judge (load file store .bytes)) ≡ answered (n ∷ []))
+    ↔ ((d : Document) × (file ≡ documentText d) × So (wellFormed d) × RulesHold d × ClaimsHold d × (n ≡ length (d .claims)))
+judge-loaded = numbers.judge-loaded
 
+-- all answers of judge: 20, 21, 22, 10 with the smallest row, 11 with the first claim, or the count
+pub judge-exact : (store : Bytes) → JudgeIs store (judgeAnswer (judge store))
+judge-exact = exact.judge-answers
+
+-- all answers of verdict: 20, 21, 22, 24, 10 with the smallest row, or the four words, each exact over all pairs of walks that can share a run
+pub verdict-exact : (store : Bytes) (c : ℕ) → VerdictIs store c (verdictAnswer (verdict store c))
+verdict-exact = exact.verdict-exact
+
+-- a word is decided exactly whether or not the tables keep the flow rules
 pub word-exact : (d : Document) → So (wellFormed d) → (c : ℕ) (word : Word) → So (wordHolds d (reaches d) c word) ↔ WordHolds d c word
-word-exact = word-iff
+word-exact = judging.word-iff
 
 -- Demand 3: where load took the file and judge accepted the store as load left it, then after every list of steps the history of every instance of a claimed channel fits the claimed word
-pub sound : (file store : Bytes) (c : Counts) (n : ℕ) → load file store .answer ≡ LoadAnswer.Loaded c → judge (load file store .bytes) ≡ JudgeAnswer.Accepted n
+pub sound : (file store : Bytes) (ns : List ℕ) (n : ℕ) → loadAnswer (load file store .answer) ≡ answered ns → judgeAnswer (judge (load file store .bytes)) ≡ answered (n ∷ [])
     → (d : Document) × (file ≡ documentText d) × So (wellFormed d)
     × ((k : Claim) → Member k (d .claims) → (name : ℕ) → chanAt (d .rows) (k .channel) ≡ some name
     → (steps : List Step) (maker : Path) → HistoryFits (d .rows) (run (d .rows) steps) (made maker name) (k .word))
-sound = the.sound
+sound = numbers.sound

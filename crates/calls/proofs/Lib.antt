@@ -3,5 +3,7 @@ pub mod Codec
 pub mod Canonical
 pub mod Judging
 pub mod Calls
+pub mod Exact
+pub mod Numbers
 pub mod Bounds
 pub mod Demands
