@@ -157,6 +157,15 @@ words : VerdictAnswer → Answer
 unfolding Answers.verdictAnswer Answers.statusAnswer Answers.yesOrNo Answers.refusalAnswer Refusals.number
 words v = Answers.verdictAnswer v
 
+-- on the store that load leaves of A without flow 4: 24 on row 0, and 10 at line 6 on row 1
+withoutFlow4 : Answer × Answer
+unfolding tried variant words Calls.verdict Calls.verdictOf Calls.verdictGiven Judging.verdictDocument
+withoutFlow4 = let store = Calls.load (variant 15 []) (replicate Layout.storeSize 7) .bytes in (words (Calls.verdict store 0), words (Calls.verdict store 1))
+
+numberFirst : withoutFlow4 ≡ (turnedBack 24 0, turnedBack 10 6)
+unfolding withoutFlow4
+numberFirst = refl
+
 -- on the store that load leaves of A: the verdict on row 1; 24 on row 0; writing into as many bytes as A has, and one more; 23 into one less; 20 on a store of one byte; 22 with a kind that no row has
 record OnA : Type 0 where
   channel1 : Answer
