@@ -125,6 +125,22 @@ fn try_input() {
     try_file(b"the largest file", &file[..n]);
 }
 
+// The patterns of four words that no other file here has; a program can have six.
+fn try_patterns() {
+    try_report(
+        b"one send, two receivers at once",
+        b"[dispenser 1]\n[row 0 [bind 0 [chan] 1]]\n[row 1 [bind 1 [recv 0] 2]]\n[row 2 [bind 2 [send 0 0] 3]]\n[row 3 [bind 3 [spawn 4] 6]]\n[row 4 [bind 4 [sync 1] 5]]\n[row 5 [result 4]]\n[row 6 [bind 5 [sync 1] 7]]\n[row 7 [bind 6 [sync 2] 8]]\n[row 8 [result 6]]\n[flow 0 [0]]\n[flow 1 [1]]\n[flow 2 [2]]\n[flow 3 [u]]\n[flow 4 [0]]\n[flow 5 [0]]\n[flow 6 [u]]\n[comm 0 [0]]\n",
+    );
+    try_report(
+        b"two sends in turn, two receivers at once",
+        b"[dispenser 1]\n[row 0 [bind 0 [chan] 1]]\n[row 1 [bind 1 [recv 0] 2]]\n[row 2 [bind 2 [send 0 0] 3]]\n[row 3 [bind 3 [spawn 4] 6]]\n[row 4 [bind 4 [sync 1] 5]]\n[row 5 [result 4]]\n[row 6 [bind 5 [sync 1] 7]]\n[row 7 [bind 6 [sync 2] 8]]\n[row 8 [bind 7 [sync 2] 9]]\n[row 9 [result 7]]\n[flow 0 [0]]\n[flow 1 [1]]\n[flow 2 [2]]\n[flow 3 [u]]\n[flow 4 [0]]\n[flow 5 [0]]\n[flow 6 [u]]\n[flow 7 [u]]\n[comm 0 [0]]\n",
+    );
+    try_report(
+        b"two senders and two receivers at once",
+        b"[dispenser 1]\n[row 0 [bind 0 [chan] 1]]\n[row 1 [bind 1 [recv 0] 2]]\n[row 2 [bind 2 [send 0 0] 3]]\n[row 3 [bind 3 [spawn 4] 7]]\n[row 4 [bind 4 [sync 1] 5]]\n[row 5 [bind 5 [sync 2] 6]]\n[row 6 [result 5]]\n[row 7 [bind 6 [sync 1] 8]]\n[row 8 [bind 7 [sync 2] 9]]\n[row 9 [result 7]]\n[flow 0 [0]]\n[flow 1 [1]]\n[flow 2 [2]]\n[flow 3 [u]]\n[flow 4 [0]]\n[flow 5 [u]]\n[flow 6 [0]]\n[flow 7 [u]]\n[comm 0 [0]]\n",
+    );
+}
+
 fn main() {
     let a =
         b"[dispenser 1]\n[row 0 [bind 0 [unit] 1]]\n[row 1 [bind 1 [chan] 2]]\n[row 2 [bind 2 [spawn 3] 6]]\n[row 3 [bind 3 [recv 1] 4]]\n[row 4 [bind 4 [sync 3] 5]]\n[row 5 [result 4]]\n[row 6 [bind 5 [send 1 0] 7]]\n[row 7 [bind 6 [sync 5] 8]]\n[row 8 [result 6]]\n[flow 0 [u]]\n[flow 1 [1]]\n[flow 2 [u]]\n[flow 3 [3]]\n[flow 4 [u]]\n[flow 5 [6]]\n[flow 6 [u]]\n[comm 1 [u]]\n[claim 1 one-shot]\n";
@@ -226,6 +242,7 @@ fn main() {
         b"a rule that fails at a row that no walk comes to",
         b"[dispenser 1]\n[row 0 [bind 0 [unit] 1]]\n[row 1 [bind 1 [fun 2 3 2] 4]]\n[row 2 [bind 4 [unit] 3]]\n[row 3 [result 4]]\n[row 4 [result 0]]\n[flow 0 [u]]\n[flow 1 [1]]\n[flow 2 [1]]\n",
     );
+    try_patterns();
     try_channels(a);
     try_input();
     try_stores();
