@@ -30,10 +30,10 @@ use Rattle.calls.specs.Layout.{storeSize, rowsSize, setsSize, rowSize, memberLi
 use Rattle.calls.proofs.Codec.Rows.{row-size}
 use Rattle.calls.proofs.Codec.Sets.{flags-length}
 use Rattle.calls.proofs.Codec.Adding.{add-row, add-flow, add-comm, add-claim}
-use Rattle.lines.specs.declared.SetRead.{SetRead}
-use Rattle.lines.specs.Sets.{setFault, marks, SetIs}
-use Rattle.lines.proofs.Marks.{marks-flags}
-use Rattle.lines.proofs.Members.{SetFound, set-found, set-missing}
+use Rattle.read_sets.specs.declared.SetRead.{SetRead}
+use Rattle.read_sets.specs.Sets.{setFault, marks, SetIs}
+use Rattle.read_sets.proofs.Marks.{marks-flags}
+use Rattle.read_sets.proofs.Members.{SetFound, set-found, set-missing}
 use Rattle.loading.specs.declared.Progress.{Progress}
 use Rattle.loading.specs.declared.LineRead.{LineRead}
 use Rattle.loading.specs.Progress.{Matches, Small, Stored, Past, LineKept, FaultIs, AnswerIs, LineIs, readRest, patched}

@@ -2,11 +2,11 @@
 use format::Reason;
 use format::Refusal;
 use format::Section;
-use lines::RowRead;
-use lines::SectionRead;
-use lines::SetRead;
-use lines::WordRead;
 use program::Word;
+use read_rows::RowRead;
+use read_sets::SetRead;
+use read_words::SectionRead;
+use read_words::WordRead;
 use store::Store;
 use text::Next;
 use text::NumberRead;
@@ -69,7 +69,7 @@ fn keep_row(file: &[u8], at: usize, n: u16, store: &mut [u8], p: Progress) -> Li
     requires { ⌜ Small p ⌝ }
     ensures { λ r. ⌜ LineIs (readRest Rows n (now (file .entry)) at) p (now (store .entry)) r (now (store .exit)) ⌝ }
 {
-    let RowRead::Found(raw, e) = lines::read_row(file, at) else {
+    let RowRead::Found(raw, e) = read_rows::read_row(file, at) else {
         return LineRead::Refused(Reason::NotALine);
     };
     let Next::At(next) = text::expect(file, e, b"]\n") else {
@@ -79,17 +79,17 @@ fn keep_row(file: &[u8], at: usize, n: u16, store: &mut [u8], p: Progress) -> Li
     if 0 < later {
         return LineRead::Refused(Reason::NotALine);
     }
-    if lines::ROW_LIMIT <= n {
+    if read_rows::ROW_LIMIT <= n {
         return LineRead::Refused(Reason::AboveLimit);
     }
-    if lines::row_above(raw) {
+    if read_rows::row_above(raw) {
         return LineRead::Refused(Reason::AboveLimit);
     }
     let r = n as usize;
     if r != p.rows {
         return LineRead::Refused(Reason::OutOfCount);
     }
-    let row = lines::row_of(raw);
+    let row = read_rows::row_of(raw);
     store::put_row(store, n as u8, row);
     let rows = p.rows + 1;
     LineRead::Kept(
@@ -113,7 +113,7 @@ fn keep_flow(file: &[u8], at: usize, n: u16, store: &mut [u8], p: Progress) -> L
     ensures { λ r. ⌜ LineIs (readRest Flows n (now (file .entry)) at) p (now (store .entry)) r (now (store .exit)) ⌝ }
 {
     let mut flags = [0u8; 161];
-    let SetRead::Found(e, fault) = lines::read_set(file, at, &mut flags) else {
+    let SetRead::Found(e, fault) = read_sets::read_set(file, at, &mut flags) else {
         return LineRead::Refused(Reason::NotALine);
     };
     let Next::At(next) = text::expect(file, e, b"]\n") else {
@@ -123,7 +123,7 @@ fn keep_flow(file: &[u8], at: usize, n: u16, store: &mut [u8], p: Progress) -> L
     if 0 < later {
         return LineRead::Refused(Reason::NotALine);
     }
-    if lines::ROW_LIMIT <= n {
+    if read_rows::ROW_LIMIT <= n {
         return LineRead::Refused(Reason::AboveLimit);
     }
     if fault == 3 {
@@ -164,7 +164,7 @@ fn keep_comm(file: &[u8], at: usize, n: u16, store: &mut [u8], p: Progress) -> L
     ensures { λ r. ⌜ LineIs (readRest Comms n (now (file .entry)) at) p (now (store .entry)) r (now (store .exit)) ⌝ }
 {
     let mut flags = [0u8; 161];
-    let SetRead::Found(e, fault) = lines::read_set(file, at, &mut flags) else {
+    let SetRead::Found(e, fault) = read_sets::read_set(file, at, &mut flags) else {
         return LineRead::Refused(Reason::NotALine);
     };
     let Next::At(next) = text::expect(file, e, b"]\n") else {
@@ -174,7 +174,7 @@ fn keep_comm(file: &[u8], at: usize, n: u16, store: &mut [u8], p: Progress) -> L
     if 0 < later {
         return LineRead::Refused(Reason::NotALine);
     }
-    if lines::ROW_LIMIT <= n {
+    if read_rows::ROW_LIMIT <= n {
         return LineRead::Refused(Reason::AboveLimit);
     }
     if fault == 3 {
@@ -214,13 +214,13 @@ fn keep_claim(file: &[u8], at: usize, n: u16, store: &mut [u8], p: Progress) -> 
     requires { ⌜ Small p ⌝ }
     ensures { λ r. ⌜ LineIs (readRest Claims n (now (file .entry)) at) p (now (store .entry)) r (now (store .exit)) ⌝ }
 {
-    let WordRead::Found(word, e) = lines::read_word(file, at) else {
+    let WordRead::Found(word, e) = read_words::read_word(file, at) else {
         return LineRead::Refused(Reason::NotALine);
     };
     let Next::At(next) = text::expect(file, e, b"]\n") else {
         return LineRead::Refused(Reason::NotALine);
     };
-    if lines::ROW_LIMIT <= n {
+    if read_rows::ROW_LIMIT <= n {
         return LineRead::Refused(Reason::AboveLimit);
     }
     if p.rows == 0 {
@@ -255,7 +255,7 @@ fn load_line(file: &[u8], at: usize, store: &mut [u8], p: Progress) -> LineRead
     requires { ⌜ Small p ⌝ }
     ensures { λ r. ⌜ LineIs (readLine (now (file .entry)) at) p (now (store .entry)) r (now (store .exit)) ⌝ }
 {
-    let SectionRead::Found(section, q) = lines::read_section(file, at) else {
+    let SectionRead::Found(section, q) = read_words::read_section(file, at) else {
         return LineRead::Refused(Reason::NotALine);
     };
     let NumberRead::Found(n, e) = text::read_argument(file, q) else {

@@ -2,7 +2,7 @@
 use Rattle.loading.proofs.Keeps.{unread, faulty, claim-read, claim-over, claim-early, claim-low, claim-kept}
 use Rattle.loading.specs.Progress.{readRest}
 use Rattle.text.specs.Reads.{nextRead}
-use Rattle.lines.specs.Reads.{wordRead}
+use Rattle.read_words.specs.Reads.{wordRead}
 use Rattle.format.specs.Read.{readContent}
 use Rattle.format.specs.Text.{ascii}
 use Rattle.program.specs.Maybe.{_>>=_}
@@ -13,7 +13,7 @@ use Rattle.loading.proofs.keep_claim.Statement.{statement}
 use Rattle.loading.proofs.keep_claim.Tie as tie
 use Rattle.loading.proofs.keep_claim.Reads as reads
 use Rattle.loading.proofs.keep_claim.Lts as lts
-use Rattle.lines.proofs.read_word.Reads as read-word-reads
+use Rattle.read_words.proofs.read_word.Reads as read-word-reads
 use Rattle.loading.proofs.word_code.Reads as word-code-reads
 use Rattle.text.proofs.expect.Reads as expect-reads
 

@@ -13,7 +13,7 @@ use Rattle.loading.proofs.keep_comm.Statement.{statement}
 use Rattle.loading.proofs.keep_comm.Tie as tie
 use Rattle.loading.proofs.keep_comm.Reads as reads
 use Rattle.loading.proofs.keep_comm.Lts as lts
-use Rattle.lines.proofs.read_set.Reads as read-set-reads
+use Rattle.read_sets.proofs.read_set.Reads as read-set-reads
 use Rattle.loading.proofs.put_flags.Reads as put-flags-reads
 use Rattle.text.proofs.expect.Reads as expect-reads
 

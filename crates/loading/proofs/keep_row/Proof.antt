@@ -2,7 +2,7 @@
 use Rattle.loading.proofs.Keeps.{row-room}
 use Rattle.loading.proofs.Keeps.{row-read}
 use Rattle.text.specs.Reads.{nextRead}
-use Rattle.lines.specs.Reads.{rowRead}
+use Rattle.read_rows.specs.Reads.{rowRead}
 use mathlib.Core.Path.{_≡_, sym, ap, _∙_}
 use Rattle.loading.proofs.Keeps.{unread, faulty, row-late, row-over, row-inner, row-counts, row-kept}
 use Rattle.loading.specs.Progress.{readRest}
@@ -15,9 +15,9 @@ use Rattle.loading.proofs.keep_row.Statement.{statement}
 use Rattle.loading.proofs.keep_row.Tie as tie
 use Rattle.loading.proofs.keep_row.Reads as reads
 use Rattle.loading.proofs.keep_row.Lts as lts
-use Rattle.lines.proofs.read_row.Reads as read-row-reads
-use Rattle.lines.proofs.row_above.Reads as row-above-reads
-use Rattle.lines.proofs.row_of.Reads as row-of-reads
+use Rattle.read_rows.proofs.read_row.Reads as read-row-reads
+use Rattle.read_rows.proofs.row_above.Reads as row-above-reads
+use Rattle.read_rows.proofs.row_of.Reads as row-of-reads
 use Rattle.store.proofs.put_row.Reads as put-row-reads
 use Rattle.text.proofs.expect.Reads as expect-reads
 

@@ -4,8 +4,8 @@ use Rattle.format.specs.declared.Section.the-variants.{Rows, Flows, Comms, Clai
 use mathlib.Core.Option.{some}
 use Rattle.loading.proofs.Keeps.{unread, line-rest}
 use Rattle.text.specs.Reads.{numberRead, nextRead}
-use Rattle.lines.specs.declared.SectionRead.{SectionRead}
-use Rattle.lines.specs.Reads.{sectionRead}
+use Rattle.read_words.specs.declared.SectionRead.{SectionRead}
+use Rattle.read_words.specs.Reads.{sectionRead}
 use Rattle.format.specs.Read.{readLine}
 use Rattle.format.specs.Text.{ascii}
 use Rattle.program.specs.Maybe.{_>>=_}
@@ -15,7 +15,7 @@ use Rattle.loading.proofs.load_line.Statement.{statement}
 use Rattle.loading.proofs.load_line.Tie as tie
 use Rattle.loading.proofs.load_line.Reads as reads
 use Rattle.loading.proofs.load_line.Lts as lts
-use Rattle.lines.proofs.read_section.Reads as read-section-reads
+use Rattle.read_words.proofs.read_section.Reads as read-section-reads
 use Rattle.loading.proofs.keep_claim.Reads as keep-claim-reads
 use Rattle.loading.proofs.keep_comm.Reads as keep-comm-reads
 use Rattle.loading.proofs.keep_flow.Reads as keep-flow-reads
