@@ -1,6 +1,7 @@
 // Rows, read from a slice at a position with numbers up to 999, and the limit of their numbers.
 use program::Bind;
 use program::Row;
+use store::Store;
 use text::Next;
 use text::NumberRead;
 ghost use mathlib.Core.Bool.{So, false};
@@ -231,21 +232,18 @@ pub fn read_row(s: &[u8], at: usize) -> RowRead
     read_bind(s, q, name)
 }
 
-// Rows and names are numbered below this.
-pub const ROW_LIMIT: u16 = 160;
-
 // Whether a row has a number above the limit.
 pub fn row_above(raw: RawRow) -> bool
     ensures { λ r. ⌜ r ≡ rowAbove (rawRow raw) ⌝ }
 {
     let kind = raw.kind;
-    if ROW_LIMIT <= raw.name {
+    if Store::NAMES <= raw.name as usize {
         return true;
     }
     if kind == 1 {
         return false;
     }
-    if ROW_LIMIT <= raw.rest {
+    if Store::ROWS <= raw.rest as usize {
         return true;
     }
     let count = arity(kind);
@@ -266,31 +264,31 @@ fn numbers_above(n: Numbers, count: usize) -> bool
     if count == 0 {
         return false;
     }
-    if ROW_LIMIT <= n.a {
+    if Store::ROWS <= n.a as usize {
         return true;
     }
     if count == 1 {
         return false;
     }
-    if ROW_LIMIT <= n.b {
+    if Store::ROWS <= n.b as usize {
         return true;
     }
     if count == 2 {
         return false;
     }
-    if ROW_LIMIT <= n.c {
+    if Store::ROWS <= n.c as usize {
         return true;
     }
     if count == 3 {
         return false;
     }
-    if ROW_LIMIT <= n.d {
+    if Store::ROWS <= n.d as usize {
         return true;
     }
     if count == 4 {
         return false;
     }
-    if ROW_LIMIT <= n.e {
+    if Store::ROWS <= n.e as usize {
         return true;
     }
     false

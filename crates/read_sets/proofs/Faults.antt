@@ -14,6 +14,7 @@ use Rattle.program.proofs.Test.{and-left, and-right, and-intro}
 use Rattle.format.specs.Limits.{rowLimit}
 use Rattle.format.specs.Read.{setRows, rising}
 use Rattle.calls.specs.Layout.{memberLimit}
+use Rattle.read_sets.specs.declared.SetFault.the-variants.{Nothing, AboveLimit, NotRising}
 use Rattle.read_sets.specs.Sets.{setFault, faultAfter, faultFrom}
 
 -- ---- 3
@@ -68,37 +69,37 @@ rises (m ∷ ms) = rw (le-leb 0 m (omega arith)) (rises-above m ms)
 
 -- ---- the fold
 
-from-3 : (least : ℕ) (ms : List ℕ) → faultFrom 3 least ms ≡ 3
+from-above : (least : ℕ) (ms : List ℕ) → faultFrom AboveLimit least ms ≡ AboveLimit
 unfolding faultFrom faultAfter
-from-3 least [] = refl
-from-3 least (m ∷ ms) = go (leb memberLimit m) (leb least m) (from-3 (m + 1) ms)
+from-above least [] = refl
+from-above least (m ∷ ms) = go (leb memberLimit m) (leb least m) (from-above (m + 1) ms)
   where
-    go : (p q : Bool) → faultFrom 3 (m + 1) ms ≡ 3 → faultFrom (pick p 3 (pick q 3 3)) (m + 1) ms ≡ 3
+    go : (p q : Bool) → faultFrom AboveLimit (m + 1) ms ≡ AboveLimit → faultFrom (pick p AboveLimit (pick q AboveLimit AboveLimit)) (m + 1) ms ≡ AboveLimit
     go true q h = h
     go false true h = h
     go false false h = h
 
-from-5 : (least : ℕ) (ms : List ℕ) → faultFrom 5 least ms ≡ pick (below ms) 5 3
+from-falling : (least : ℕ) (ms : List ℕ) → faultFrom NotRising least ms ≡ pick (below ms) NotRising AboveLimit
 unfolding faultFrom faultAfter
-from-5 least [] = rw below-none
-from-5 least (m ∷ ms) = rw (below-next m ms) (go (leb memberLimit m) (leb least m) (from-5 (m + 1) ms))
+from-falling least [] = rw below-none
+from-falling least (m ∷ ms) = rw (below-next m ms) (go (leb memberLimit m) (leb least m) (from-falling (m + 1) ms))
   where
-    go : (p q : Bool) → faultFrom 5 (m + 1) ms ≡ pick (below ms) 5 3 → faultFrom (pick p 3 (pick q 5 5)) (m + 1) ms ≡ pick (not p && below ms) 5 3
-    go true q h = from-3 (m + 1) ms
+    go : (p q : Bool) → faultFrom NotRising (m + 1) ms ≡ pick (below ms) NotRising AboveLimit → faultFrom (pick p AboveLimit (pick q NotRising NotRising)) (m + 1) ms ≡ pick (not p && below ms) NotRising AboveLimit
+    go true q h = from-above (m + 1) ms
     go false true h = h
     go false false h = h
 
-from-0 : (least : ℕ) (ms : List ℕ) → faultFrom 0 least ms ≡ pick (below ms) (pick (risesFrom least ms) 0 5) 3
+from-nothing : (least : ℕ) (ms : List ℕ) → faultFrom Nothing least ms ≡ pick (below ms) (pick (risesFrom least ms) Nothing NotRising) AboveLimit
 unfolding faultFrom faultAfter risesFrom
-from-0 least [] = rw below-none
-from-0 least (m ∷ ms) = rw (below-next m ms) (go (leb memberLimit m) (leb least m) (from-0 (m + 1) ms))
+from-nothing least [] = rw below-none
+from-nothing least (m ∷ ms) = rw (below-next m ms) (go (leb memberLimit m) (leb least m) (from-nothing (m + 1) ms))
   where
-    go : (p q : Bool) → faultFrom 0 (m + 1) ms ≡ pick (below ms) (pick (risesFrom (m + 1) ms) 0 5) 3
-        → faultFrom (pick p 3 (pick q 0 5)) (m + 1) ms ≡ pick (not p && below ms) (pick (q && risesFrom (m + 1) ms) 0 5) 3
-    go true q h = from-3 (m + 1) ms
+    go : (p q : Bool) → faultFrom Nothing (m + 1) ms ≡ pick (below ms) (pick (risesFrom (m + 1) ms) Nothing NotRising) AboveLimit
+        → faultFrom (pick p AboveLimit (pick q Nothing NotRising)) (m + 1) ms ≡ pick (not p && below ms) (pick (q && risesFrom (m + 1) ms) Nothing NotRising) AboveLimit
+    go true q h = from-above (m + 1) ms
     go false true h = h
-    go false false h = from-5 (m + 1) ms
+    go false false h = from-falling (m + 1) ms
 
-pub fault-is : (ms : List ℕ) → faultFrom 0 0 ms ≡ setFault ms
+pub fault-is : (ms : List ℕ) → faultFrom Nothing 0 ms ≡ setFault ms
 unfolding setFault below
-fault-is ms = from-0 0 ms ∙ rw (rises ms)
+fault-is ms = from-nothing 0 ms ∙ rw (rises ms)

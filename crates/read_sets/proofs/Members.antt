@@ -9,6 +9,8 @@ use lib.ListN.{length, set}
 use Rattle.program.specs.Maybe.{_>>=_}
 use Rattle.format.specs.Text.{Bytes, ascii, expect, readNumber, readArgument}
 use Rattle.format.specs.Read.{readFirst, readMembers, readSet}
+use Rattle.read_sets.specs.declared.SetFault.{SetFault}
+use Rattle.read_sets.specs.declared.SetFault.the-variants.{Nothing}
 use Rattle.read_sets.specs.declared.SetRead.{SetRead}
 use Rattle.read_sets.specs.declared.SetRead.the-variants.{Found, Missing}
 use Rattle.read_sets.specs.Sets.{setFault, marks, faultAfter, faultFrom, SetIs}
@@ -18,7 +20,7 @@ use Rattle.read_sets.proofs.Faults.{fault-is}
 abbrev also : ℕ → List ℕ × ℕ → Option (List ℕ × ℕ)
 also m (ms, e) = some (m ∷ ms, e)
 
-also-is : (fault least m : ℕ) (o : Option (List ℕ × ℕ)) (flags : Bytes) (r : SetRead) (left : Bytes)
+also-is : (fault : SetFault) (least m : ℕ) (o : Option (List ℕ × ℕ)) (flags : Bytes) (r : SetRead) (left : Bytes)
     → SetIs (faultFrom (faultAfter fault least m) (m + 1)) o (set flags m 1) r left → SetIs (faultFrom fault least) (o >>= also m) flags r left
 unfolding faultFrom marks _>>=_
 also-is fault least m none flags r left h = h
@@ -26,7 +28,7 @@ also-is fault least m (some x) flags r left h = h
 
 -- ---- the rest of a set, in at most k rows
 
-module _ (s : Bytes) (at fault least : ℕ) (flags : Bytes) where
+module _ (s : Bytes) (at : ℕ) (fault : SetFault) (least : ℕ) (flags : Bytes) where
   pub members-out : (left : Bytes) → SetIs (faultFrom fault least) (readMembers 0 s at) flags Missing left
   unfolding readMembers
   members-out left = refl
@@ -53,10 +55,10 @@ module _ (s : Bytes) (at fault least : ℕ) (flags : Bytes) where
 -- ---- a whole set
 
 whole : (m : ℕ) (o : Option (List ℕ × ℕ)) (flags : Bytes) (r : SetRead) (left : Bytes)
-    → SetIs (faultFrom (faultAfter 0 0 m) (m + 1)) o (set flags m 1) r left → SetIs setFault (o >>= also m) flags r left
+    → SetIs (faultFrom (faultAfter Nothing 0 m) (m + 1)) o (set flags m 1) r left → SetIs setFault (o >>= also m) flags r left
 unfolding _>>=_
 whole m none flags r left h = h
-whole m (some x) flags r left h = (also-is 0 0 m (some x) flags r left h .0 ∙ rw (fault-is (m ∷ x .0)), also-is 0 0 m (some x) flags r left h .1)
+whole m (some x) flags r left h = (also-is Nothing 0 m (some x) flags r left h .0 ∙ rw (fault-is (m ∷ x .0)), also-is Nothing 0 m (some x) flags r left h .1)
 
 module _ (s : Bytes) (at p : ℕ) (flags : Bytes) (bracket : expect (91 ∷ []) s at ≡ some p) where
   pub set-stop : (left : Bytes) → expect (117 ∷ []) s p ≡ none → readNumber s p ≡ none → SetIs setFault (readSet s at) flags Missing left
@@ -64,25 +66,25 @@ module _ (s : Bytes) (at p : ℕ) (flags : Bytes) (bracket : expect (91 ∷ []) 
   set-stop left e n = rw (bracket, e, readFirst, n) refl
 
   pub set-unit : (q : ℕ) → expect (117 ∷ []) s p ≡ some q → (r : SetRead) (left : Bytes)
-      → SetIs (faultFrom 0 1) (readMembers (length s) s q) (set flags 0 1) r left → SetIs setFault (readSet s at) flags r left
+      → SetIs (faultFrom Nothing 1) (readMembers (length s) s q) (set flags 0 1) r left → SetIs setFault (readSet s at) flags r left
   unfolding readSet readFirst ascii faultAfter _>>=_
   set-unit q e r left t = rw (bracket, e, readFirst) (whole 0 (readMembers (length s) s q) flags r left t)
 
   pub set-row : (n q : ℕ) → expect (117 ∷ []) s p ≡ none → readNumber s p ≡ some (n, q) → (r : SetRead) (left : Bytes)
-      → SetIs (faultFrom (faultAfter 0 0 (n + 1)) (n + 1 + 1)) (readMembers (length s) s q) (set flags (n + 1) 1) r left
+      → SetIs (faultFrom (faultAfter Nothing 0 (n + 1)) (n + 1 + 1)) (readMembers (length s) s q) (set flags (n + 1) 1) r left
       → SetIs setFault (readSet s at) flags r left
   unfolding readSet readFirst ascii _>>=_
   set-row n q e k r left t = rw (bracket, e, readFirst, k) (rw (add-one n) at (whole (n + 1) (readMembers (length s) s q) flags r left t))
 
 -- ---- what an answer of `read_set` says, for its callers
 
-pub record SetFound (o : Option (List ℕ × ℕ)) (next fault : ℕ) (flags left : Bytes) : Type 0 where
+pub record SetFound (o : Option (List ℕ × ℕ)) (next : ℕ) (fault : SetFault) (flags left : Bytes) : Type 0 where
   pub members : List ℕ
   pub reads : o ≡ some (members, next)
   pub fault-is-set : fault ≡ setFault members
   pub marked : left ≡ marks members flags
 
-pub set-found : (o : Option (List ℕ × ℕ)) (flags : Bytes) (r : SetRead) (left : Bytes) {next fault : ℕ}
+pub set-found : (o : Option (List ℕ × ℕ)) (flags : Bytes) (r : SetRead) (left : Bytes) {next : ℕ} {fault : SetFault}
     → SetIs setFault o flags r left → r ≡ Found next fault → SetFound o next fault flags left
 set-found none flags r left h e = let z : _≡_ {A = ℕ} 0 1 = cc in absurd (omega arith)
 set-found (some (ms, p)) flags r left (h, k) e = record { members = ms; reads = cc; fault-is-set = cc; marked = k }

@@ -1,18 +1,44 @@
 // Sets, read from a slice at a position: their members are marked in bytes of 0 and 1, and their fault is told.
+use store::Store;
 use text::Next;
 use text::NumberRead;
 ghost use mathlib.Core.Path.{_≡_};
 ghost use lib.ListN.{length, set};
 ghost use Rattle.format.specs.Read.{readMembers, readSet};
-ghost use Rattle.read_sets.specs.Sets.{setFault, faultAfter, faultFrom, SetIs};
+ghost use Rattle.read_sets.specs.Sets.{isAboveLimit, isNotRising, setFault, faultAfter, faultFrom, SetIs};
 
-// The members of a set are numbered below this: unit is 0, and row r is r + 1.
-pub const MEMBER_LIMIT: usize = 161;
+// What is wrong with a set: a row is above the limit (3), or else its members do not rise (5).
+pub enum SetFault {
+    Nothing,
+    AboveLimit,
+    NotRising,
+}
 
-// What reading a set finds: the position past it and its fault, or no set. The fault is 3 where a row is above the limit, else 5
-// where the members do not rise, else 0.
+impl SetFault {
+    pub fn is_above_limit(self) -> bool
+        ensures { λ r. ⌜ r ≡ isAboveLimit self ⌝ }
+    {
+        match self {
+            SetFault::Nothing => false,
+            SetFault::AboveLimit => true,
+            SetFault::NotRising => false,
+        }
+    }
+
+    pub fn is_not_rising(self) -> bool
+        ensures { λ r. ⌜ r ≡ isNotRising self ⌝ }
+    {
+        match self {
+            SetFault::Nothing => false,
+            SetFault::AboveLimit => false,
+            SetFault::NotRising => true,
+        }
+    }
+}
+
+// What reading a set finds: the position past it and its fault, or no set.
 pub enum SetRead {
-    Found(usize, u8),
+    Found(usize, SetFault),
     Missing,
 }
 
@@ -26,23 +52,24 @@ fn mark(flags: &mut [u8], m: usize)
 }
 
 // The fault of a set that goes on with member m, where a rising one goes on with at least `least`.
-fn fault_after(fault: u8, least: usize, m: usize) -> u8
+fn fault_after(fault: SetFault, least: usize, m: usize) -> SetFault
     ensures { λ r. ⌜ r ≡ faultAfter fault least m ⌝ }
 {
-    if MEMBER_LIMIT <= m {
-        return 3;
+    if Store::MEMBERS <= m {
+        return SetFault::AboveLimit;
     }
     if least <= m {
         return fault;
     }
-    if fault == 3 {
-        return 3;
+    match fault {
+        SetFault::Nothing => SetFault::NotRising,
+        SetFault::AboveLimit => SetFault::AboveLimit,
+        SetFault::NotRising => SetFault::NotRising,
     }
-    5
 }
 
 // Reads the rest of a set, with a space before each row, and marks its members.
-fn read_members(s: &[u8], from: usize, earlier: u8, low: usize, flags: &mut [u8]) -> SetRead
+fn read_members(s: &[u8], from: usize, earlier: SetFault, low: usize, flags: &mut [u8]) -> SetRead
     ensures { λ r. ⌜ SetIs (faultFrom earlier low) (readMembers (length (now (s .entry))) (now (s .entry)) from) (now (flags .entry)) r (now (flags .exit)) ⌝ }
 {
     let mut at = from;
@@ -75,13 +102,13 @@ pub fn read_set(s: &[u8], at: usize, flags: &mut [u8]) -> SetRead
     };
     if let Next::At(q) = text::expect(s, p, b"u") {
         mark(flags, 0);
-        return read_members(s, q, 0, 1, flags);
+        return read_members(s, q, SetFault::Nothing, 1, flags);
     }
     let NumberRead::Found(n, q) = text::read_number(s, p) else {
         return SetRead::Missing;
     };
     let m = n as usize + 1;
-    let fault = fault_after(0, 0, m);
+    let fault = fault_after(SetFault::Nothing, 0, m);
     mark(flags, m);
     let least = m + 1;
     read_members(s, q, fault, least, flags)

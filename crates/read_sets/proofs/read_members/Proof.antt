@@ -13,12 +13,12 @@ use Rattle.read_sets.proofs.read_members.Statement.{statement}
 use Rattle.read_sets.proofs.read_members.Tie as tie
 
 abbrev Inv-loop : tie.InvT-loop
-Inv-loop s from earlier low flags₀ at₀ fault₀ least₀ left₀ t14 flags at fault least left =
+Inv-loop s from low flags₀ at₀ fault₀ least₀ left₀ t14 flags at fault least left =
     (length flags ≡ length flags₀)
-    × ((r : SetRead) (m : Bytes) → SetIs (faultFrom fault least) (readMembers left s at) flags r m → SetIs (faultFrom earlier low) (readMembers (length s) s from) flags₀ r m)
+    × ((r : SetRead) (m : Bytes) → SetIs (faultFrom fault least) (readMembers left s at) flags r m → SetIs (faultFrom fault₀ low) (readMembers (length s) s from) flags₀ r m)
 
 abbrev μ-loop : tie.MeasureT-loop
-μ-loop s from earlier low flags₀ at₀ fault₀ least₀ left₀ t14 flags at fault least left = left
+μ-loop s from low flags₀ at₀ fault₀ least₀ left₀ t14 flags at fault least left = left
 
 loop-holds : tie.Need-loop-holds Inv-loop μ-loop
 loop-holds c = search needs
