@@ -7,8 +7,7 @@ use Rattle.format.specs.Text.{Bytes}
 use Rattle.calls.specs.declared.Counts.{Counts}
 use Rattle.calls.specs.declared.LoadAnswer.{LoadAnswer}
 use Rattle.calls.specs.declared.JudgeAnswer.{JudgeAnswer}
-use Rattle.calls.specs.Calls.{load, judge}
-use Rattle.filing.specs.Loading.{Leaves}
+use Rattle.calls.specs.Calls.{Leaves, load, judge}
 use Rattle.checker.proofs.Promises.{sound}
 use Rattle.acceptance.specs.Accepting.{ClaimsFit, SoundFile, judgedAfter, Accepts}
 

@@ -3,11 +3,12 @@
 --   judge    `opened`, then Judging.judgeDocument          (20, 21, 22; 10, 11)
 --   verdict  `opened`, then Judging.verdictDocument        (20, 21, 22, 24; 10)
 --   write    `opened`, then Print.documentText of format   (20, 21, 22, 23)
--- The contract of each public function is equality with its definition here.
+-- The contract of each public function is equality with its definition here; where bytes are lent to be altered, by `Leaves`.
 use Prim.Native.Nat.{ℕ}
 use mathlib.Core.Bool.{Bool, true, false, not, _&&_}
 use mathlib.Core.List.{List, [], _∷_, _++_}
 use mathlib.Core.Option.{Option, none, some}
+use mathlib.Core.Path.{_≡_}
 use lib.ListN.{length, take, drop, replicate}
 use lib.Dec.{ltb, eqb}
 use Rattle.program.specs.Each.{every}
@@ -33,6 +34,11 @@ use Rattle.calls.specs.Judging.{judgeDocument, verdictDocument}
 pub record Outcome (A : Type 0) : Type 0 where
   pub answer : A
   pub bytes : Bytes
+
+-- an answer and the bytes left are those of an outcome
+pub record Leaves {A : Type 0} (o : Outcome A) (answer : A) (left : Bytes) : Type 0 where
+  pub answer-is : answer ≡ o .answer
+  pub bytes-are : left ≡ o .bytes
 
 -- 22: "bytes that no load leaves, the length limit set aside"
 unfoldable pub unsound : Bytes → Bool

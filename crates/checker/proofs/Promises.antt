@@ -27,9 +27,8 @@ use Rattle.calls.specs.declared.VerdictStatus.{VerdictStatus}
 use Rattle.calls.specs.declared.WriteAnswer.{WriteAnswer}
 use Rattle.calls.specs.Layout.{storeSize}
 use Rattle.calls.specs.Judging.{verdictWords, flowTable, commTable, wordHolds, WordHolds, reaches}
-use Rattle.calls.specs.Calls.{load, judge, verdict, write, counts, opened}
+use Rattle.calls.specs.Calls.{Leaves, load, judge, verdict, write, counts, opened}
 use Rattle.calls.proofs.Demands as definitions
-use Rattle.filing.specs.Loading.{Leaves}
 
 -- a load
 module _ (file store : Bytes) {answer : LoadAnswer} {left : Bytes} (loads : Leaves (load file store) answer left) where

@@ -17,14 +17,13 @@ use Rattle.format.specs.Document.{Document}
 use Rattle.format.specs.Print.{documentText}
 use Rattle.calls.specs.declared.WriteAnswer.{WriteAnswer}
 use Rattle.calls.specs.Layout.{storeSize, decode}
-use Rattle.calls.specs.Calls.{openedFixed, opened, andThen, written, write}
+use Rattle.calls.specs.Calls.{Leaves, openedFixed, opened, andThen, written, write}
 use Rattle.calls.specs.Canonical.{countRows}
 use Rattle.calls.proofs.Canonical.{rows-decoded}
 use Rattle.text.specs.Write.{Wrote}
 use Rattle.store.specs.Rows.{storeRow, storeProgram}
 use Rattle.writing.specs.Texts.{storedDocument}
 use Rattle.entry.specs.declared.Opened.{Opened}
-use Rattle.filing.specs.Loading.{Leaves}
 use Rattle.entry.specs.Opening.{Opens, OpenedIs}
 use Rattle.entry.proofs.Opening.{refused-is, opens-is}
 

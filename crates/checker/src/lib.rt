@@ -9,8 +9,7 @@ use format::Reason;
 use format::Refusal;
 use store::Store;
 ghost use mathlib.Core.Path.{_≡_};
-ghost use Rattle.calls.specs.Calls.{load, judge, verdict, write};
-ghost use Rattle.filing.specs.Loading.{Leaves};
+ghost use Rattle.calls.specs.Calls.{Leaves, load, judge, verdict, write};
 
 // Loads a file into the lent store: its counts, or refusals 20 and 1 to 9.
 pub fn load(file: &[u8], store: &mut [u8]) -> LoadAnswer

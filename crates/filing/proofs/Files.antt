@@ -24,7 +24,7 @@ use Rattle.format.proofs.Files.{print-read}
 use Rattle.calls.specs.declared.Counts.{Counts}
 use Rattle.calls.specs.declared.LoadAnswer.{LoadAnswer}
 use Rattle.calls.specs.Layout.{storeSize, rowSize, rowOf, counting, decodeRows, encode, decode}
-use Rattle.calls.specs.Calls.{Outcome, counts, refilled, loaded, load}
+use Rattle.calls.specs.Calls.{Leaves, counts, refilled, loaded, load}
 use Rattle.calls.specs.Canonical.{countRows}
 use Rattle.calls.proofs.Codec.{encode-length, decode-encode}
 use Rattle.calls.proofs.Codec.Adding.{encode-none}
@@ -40,7 +40,7 @@ use Rattle.structure.specs.declared.Structure.the-variants.{Sound, Refused}
 use Rattle.structure.specs.Answer.{structureRead}
 use Rattle.structure.specs.Lines.{storeDocument}
 use Rattle.structure.proofs.Checking.{document-decodes}
-use Rattle.filing.specs.Loading.{Leaves, Finishes}
+use Rattle.filing.specs.Loading.{Finishes}
 
 -- ---- the rows at the head of a slice
 

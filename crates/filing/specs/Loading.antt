@@ -1,20 +1,14 @@
 -- What load promises: the answer and the lent bytes are those that a definition gives.
 use mathlib.Core.Bool.{So}
-use mathlib.Core.Path.{_≡_}
 use Rattle.format.specs.Text.{Bytes}
 use Rattle.format.specs.Document.{Document}
 use Rattle.format.specs.Refusals.{accepted}
 use Rattle.format.specs.Check.{checkStructure}
 use Rattle.format.specs.WellFormed.{orderly}
 use Rattle.calls.specs.declared.LoadAnswer.{LoadAnswer}
-use Rattle.calls.specs.Calls.{Outcome, loaded}
+use Rattle.calls.specs.Calls.{Leaves, loaded}
 use Rattle.loading.specs.declared.Progress.{Progress}
 use Rattle.loading.specs.Progress.{Matches, Stored}
-
--- the answer and the bytes left are those of the outcome
-pub record Leaves {A : Type 0} (o : Outcome A) (answer : A) (left : Bytes) : Type 0 where
-  pub answer-is : answer ≡ o .answer
-  pub bytes-are : left ≡ o .bytes
 
 -- what is left to do behind a file's last line: of a document that has been read into the store, refusals 6 to 9
 pub record Finishes (p : Progress) (store : Bytes) (answer : LoadAnswer) (left : Bytes) : Type 0 where

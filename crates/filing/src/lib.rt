@@ -13,8 +13,8 @@ ghost use Rattle.format.specs.Limits.{rowLimit};
 ghost use Rattle.format.specs.Refusals.{refused};
 ghost use Rattle.format.specs.Check.{check};
 ghost use Rattle.calls.specs.Layout.{storeSize};
-ghost use Rattle.calls.specs.Calls.{loaded};
-ghost use Rattle.filing.specs.Loading.{Leaves, Finishes};
+ghost use Rattle.calls.specs.Calls.{Leaves, loaded};
+ghost use Rattle.filing.specs.Loading.{Finishes};
 
 // A refusal leaves the store empty.
 fn refuse(store: &mut [u8], refusal: Refusal) -> LoadAnswer

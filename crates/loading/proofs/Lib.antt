@@ -1,5 +1,6 @@
--- Laws that the proofs of the functions share: faults from the progress, parts of the store replaced, a line kept, and a whole file.
-pub mod Faults
+-- Laws that the proofs of the functions share.
 pub mod Patches
+pub mod Faults
+pub mod Adding
 pub mod Keeps
 pub mod Rest

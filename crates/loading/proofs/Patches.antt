@@ -7,22 +7,22 @@ use native.Mathlib.Numerals.{add-one}
 use lib.ListN.{length, take, drop, set, length-append, length-take, length-drop}
 use lib.Seq.{sets, sets-eq, set-split, take-take, drop-drop, take-append-le, drop-append-le, drop-at, take-at, length-take-le, take-append-add, drop-append-add, take-add}
 use Rattle.format.specs.Text.{Bytes}
-use Rattle.loading.specs.Progress.{patched}
+use Rattle.calls.proofs.Codec.Adding.{patch}
 
 -- what a row's eight bytes, and one byte, replace
-pub sets-patched : (s : Bytes) (at : ℕ) (new : Bytes) → at + length new ≤ length s → sets s at new ≡ patched at new s
+pub sets-patched : (s : Bytes) (at : ℕ) (new : Bytes) → at + length new ≤ length s → sets s at new ≡ patch at new s
 sets-patched s at new l = sets-eq new s at l ∙ append-assoc (take at s) new (drop (at + length new) s)
 
-pub set-patched : (s : Bytes) (at b : ℕ) → at < length s → set s at b ≡ patched at (b ∷ []) s
+pub set-patched : (s : Bytes) (at b : ℕ) → at < length s → set s at b ≡ patch at (b ∷ []) s
 set-patched s at b l = set-split s at b l ∙ rw (add-one)
 
-pub patched-length : (s : Bytes) (at : ℕ) (new : Bytes) → at + length new ≤ length s → length (patched at new s) ≡ length s
+pub patched-length : (s : Bytes) (at : ℕ) (new : Bytes) → at + length new ≤ length s → length (patch at new s) ≡ length s
 patched-length s at new l =
     length-append (take at s) (new ++ drop (at + length new) s) ∙ rw (length-append new (drop (at + length new) s), length-take-le at s (omega arith), length-drop (at + length new) s) (omega arith)
 
 module _ (size : ℕ) (s : Bytes) (at : ℕ) (new : Bytes) (within : at + length new ≤ size) (long : size ≤ length s) where
   -- the two parts of the replaced store
-  pub patched-take : take size (patched at new s) ≡ patched at new (take size s)
+  pub patched-take : take size (patch at new s) ≡ patch at new (take size s)
   patched-take =
       let k = at + length new in
       let m = size - k in
@@ -34,7 +34,7 @@ module _ (size : ℕ) (s : Bytes) (at : ℕ) (new : Bytes) (within : at + length
       rw (take-take at size s (omega arith), d, ← append-assoc (take at s) new (drop k s), ← append-assoc (take at s) new (take m (drop k s)))
       (ap (λ (j : ℕ). take j (take at s ++ new ++ drop k s)) n ∙ take-append-add (take at s ++ new) (drop k s) m)
 
-  pub patched-drop : drop size (patched at new s) ≡ drop size s
+  pub patched-drop : drop size (patch at new s) ≡ drop size s
   patched-drop =
       let h : length (take at s ++ new) ≡ at + length new = length-append (take at s) new ∙ rw (length-take-le at s (omega arith)) in
       let n : size ≡ length (take at s ++ new) + (size - (at + length new)) = omega arith in

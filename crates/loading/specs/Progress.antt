@@ -1,7 +1,7 @@
 -- What the functions that read a line promise.
 use Prim.Native.Nat.{ℕ, _+_, _≤_}
 use mathlib.Core.Bool.{Bool}
-use mathlib.Core.List.{List, _++_}
+use mathlib.Core.List.{List}
 use mathlib.Core.Option.{Option, none, some}
 use mathlib.Core.Path.{_≡_}
 use lib.ListN.{length, take, drop}
@@ -84,10 +84,6 @@ pub record LineIs (line : Option (Line × ℕ)) (p : Progress) (store : Bytes) (
   pub past : Past store left
   pub small : SmallAnswer answer
   pub answers : (d : Document) → Stored store d → Matches d p → AnswerIs d line answer left
-
--- a store with the bytes from a position on replaced
-abbrev pub patched : ℕ → Bytes → Bytes → Bytes
-patched at new s = take at s ++ (new ++ drop (at + length new) s)
 
 abbrev pub lineRefusal : LineRead → ℕ → Refusal
 lineRefusal (LineRead.Kept q next) line = refusal NotALine line

@@ -2,23 +2,26 @@
 use format::Reason;
 use format::Refusal;
 use format::Section;
-use lines::RowRead;
-use lines::SectionRead;
-use lines::SetRead;
-use lines::WordRead;
 use program::Word;
+use read_rows::RowRead;
+use read_sets::SetFault;
+use read_sets::SetRead;
+use read_words::SectionRead;
+use read_words::WordRead;
 use store::Store;
 use text::Next;
 use text::NumberRead;
+ghost use mathlib.Core.Bool.{Bool};
 ghost use mathlib.Core.Path.{_≡_};
-ghost use Prim.Native.Nat.{_+_, _≤_};
+ghost use Prim.Native.Nat.{_+_, _≤_, _<_};
 ghost use lib.ListN.{length, set};
-ghost use Rattle.format.specs.declared.Section.the-variants.{Rows, Flows, Comms, Claims};
-ghost use Rattle.format.specs.Read.{readLine};
+ghost use lib.Seq.{sets};
+ghost use Rattle.format.specs.declared.Section.the-variants.{Rows, Claims};
+ghost use Rattle.format.specs.Limits.{rowLimit, byteLimit};
+ghost use Rattle.format.specs.Read.{readLine, readLines, noLines, readFile};
 ghost use Rattle.calls.specs.Layout.{storeSize, wordCode};
-ghost use Rattle.format.specs.Limits.{byteLimit};
-ghost use Rattle.format.specs.Read.{readLines, noLines, readFile};
-ghost use Rattle.loading.specs.Progress.{Small, Stored, LineIs, FileIs, lineRefusal, readRest, patched};
+ghost use Rattle.loading.specs.Progress.{Small, Stored, LineIs, FileIs, lineRefusal, readRest};
+ghost use Rattle.loading.specs.Lines.{sectionOf, behind, leastOf, placeOf, withRow, withFlow, withComm, withSet, withClaim, faultRead, rowLineFault, setLineFault, claimLineFault};
 
 // What has been read: the counts of lines, and the least number that rises in each section.
 pub struct Progress {
@@ -31,16 +34,164 @@ pub struct Progress {
     pub claim_least: usize,
 }
 
+// The two tables of sets.
+pub enum Table {
+    Flow,
+    Comm,
+}
+
+impl Progress {
+    // How many lines of sections behind a table's have been read.
+    fn behind(self, table: Table) -> usize
+        requires { ⌜ Small self ⌝ }
+        ensures { λ n. ⌜ n ≡ behind table self ⌝ }
+    {
+        match table {
+            Table::Flow => self.comms + self.claims,
+            Table::Comm => self.claims,
+        }
+    }
+
+    // The least key that rises in a table.
+    fn least(self, table: Table) -> usize
+        ensures { λ n. ⌜ n ≡ leastOf table self ⌝ }
+    {
+        match table {
+            Table::Flow => self.flow_least,
+            Table::Comm => self.comm_least,
+        }
+    }
+
+    // With a row more.
+    fn with_row(mut self) -> Progress
+        requires { ⌜ Small self ⌝ }
+        ensures { λ q. ⌜ q ≡ withRow self ⌝ }
+    {
+        self.rows += 1;
+        self
+    }
+
+    // With a flow line more, behind which the least name that rises is another.
+    fn with_flow(mut self, least: usize) -> Progress
+        requires { ⌜ Small self ⌝ }
+        ensures { λ q. ⌜ q ≡ withFlow least self ⌝ }
+    {
+        self.flows += 1;
+        self.flow_least = least;
+        self
+    }
+
+    // With a comm line more, behind which the least channel row that rises is another.
+    fn with_comm(mut self, least: usize) -> Progress
+        requires { ⌜ Small self ⌝ }
+        ensures { λ q. ⌜ q ≡ withComm least self ⌝ }
+    {
+        self.comms += 1;
+        self.comm_least = least;
+        self
+    }
+
+    // With a set more.
+    fn with_set(self, table: Table, least: usize) -> Progress
+        requires { ⌜ Small self ⌝ }
+        ensures { λ q. ⌜ q ≡ withSet table least self ⌝ }
+    {
+        match table {
+            Table::Flow => self.with_flow(least),
+            Table::Comm => self.with_comm(least),
+        }
+    }
+
+    // With a claim more, behind which the least channel row that rises is another.
+    fn with_claim(mut self, least: usize) -> Progress
+        requires { ⌜ Small self ⌝ }
+        ensures { λ q. ⌜ q ≡ withClaim least self ⌝ }
+    {
+        self.claims += 1;
+        self.claim_least = least;
+        self
+    }
+}
+
 // A line's answer: what has been read with it and the position of the next line, or why it is refused.
 pub enum LineRead {
     Kept(Progress, usize),
     Refused(Reason),
 }
 
+// What is wrong with a line.
+pub enum LineFault {
+    Nothing,
+    Refused(Reason),
+}
+
+// The fault of the line of row n, of whose numbers one may be above the limit.
+fn row_fault(p: Progress, n: usize, above: bool) -> LineFault
+    requires { ⌜ Small p ⌝ }
+    ensures { λ f. ⌜ faultRead f ≡ rowLineFault p n above ⌝ }
+{
+    let later = p.flows + p.comms + p.claims;
+    if 0 < later {
+        return LineFault::Refused(Reason::NotALine);
+    }
+    if Store::ROWS <= n {
+        return LineFault::Refused(Reason::AboveLimit);
+    }
+    if above {
+        return LineFault::Refused(Reason::AboveLimit);
+    }
+    if n != p.rows {
+        return LineFault::Refused(Reason::OutOfCount);
+    }
+    LineFault::Nothing
+}
+
+// The fault of the line of a set with key n, which has a fault of its own or none.
+fn set_fault(p: Progress, table: Table, n: usize, fault: SetFault) -> LineFault
+    requires { ⌜ Small p ⌝ }
+    ensures { λ f. ⌜ faultRead f ≡ setLineFault table p n fault ⌝ }
+{
+    if 0 < p.behind(table) {
+        return LineFault::Refused(Reason::NotALine);
+    }
+    if Store::NAMES <= n {
+        return LineFault::Refused(Reason::AboveLimit);
+    }
+    if fault.is_above_limit() {
+        return LineFault::Refused(Reason::AboveLimit);
+    }
+    if p.rows == 0 {
+        return LineFault::Refused(Reason::OutOfCount);
+    }
+    if n < p.least(table) {
+        return LineFault::Refused(Reason::NotRising);
+    }
+    if fault.is_not_rising() {
+        return LineFault::Refused(Reason::NotRising);
+    }
+    LineFault::Nothing
+}
+
+// The fault of the line of the claim on row n.
+fn claim_fault(p: Progress, n: usize) -> LineFault
+    ensures { λ f. ⌜ faultRead f ≡ claimLineFault p n ⌝ }
+{
+    if Store::ROWS <= n {
+        return LineFault::Refused(Reason::AboveLimit);
+    }
+    if p.rows == 0 {
+        return LineFault::Refused(Reason::OutOfCount);
+    }
+    if n < p.claim_least {
+        return LineFault::Refused(Reason::NotRising);
+    }
+    LineFault::Nothing
+}
+
 // Puts the members' bytes of a set into a store, from base on.
 fn put_flags(store: &mut [u8], base: usize, flags: &[u8])
     requires { ⌜ base + length (now flags) ≤ length (now store) ⌝ }
-    ensures { λ _. ⌜ now (store .exit) ≡ patched base (now (flags .entry)) (now (store .entry)) ⌝ }
+    ensures { λ _. ⌜ now (store .exit) ≡ sets (now (store .entry)) base (now (flags .entry)) ⌝ }
 {
     let mut i = 0;
     while i < flags.len() {
@@ -63,149 +214,60 @@ fn word_code(word: Word) -> u8
     }
 }
 
+// Where the set of a key stands in a store.
+fn place_of(table: Table, key: usize) -> usize
+    requires { ⌜ key < rowLimit ⌝ }
+    ensures { λ at. ⌜ at ≡ placeOf table key ⌝ }
+{
+    match table {
+        Table::Flow => Store::FLOWS + key * Store::MEMBERS,
+        Table::Comm => Store::COMMS + key * Store::MEMBERS,
+    }
+}
+
 // Reads the rest of a row's line behind its number, and keeps the row.
 fn keep_row(file: &[u8], at: usize, n: u16, store: &mut [u8], p: Progress) -> LineRead
     requires { ⌜ storeSize ≤ length (now store) ⌝ }
     requires { ⌜ Small p ⌝ }
     ensures { λ r. ⌜ LineIs (readRest Rows n (now (file .entry)) at) p (now (store .entry)) r (now (store .exit)) ⌝ }
 {
-    let RowRead::Found(raw, e) = lines::read_row(file, at) else {
+    let RowRead::Found(raw, e) = read_rows::read_row(file, at) else {
         return LineRead::Refused(Reason::NotALine);
     };
     let Next::At(next) = text::expect(file, e, b"]\n") else {
         return LineRead::Refused(Reason::NotALine);
     };
-    let later = p.flows + p.comms + p.claims;
-    if 0 < later {
-        return LineRead::Refused(Reason::NotALine);
-    }
-    if lines::ROW_LIMIT <= n {
-        return LineRead::Refused(Reason::AboveLimit);
-    }
-    if lines::row_above(raw) {
-        return LineRead::Refused(Reason::AboveLimit);
-    }
+    let above = read_rows::row_above(raw);
     let r = n as usize;
-    if r != p.rows {
-        return LineRead::Refused(Reason::OutOfCount);
+    if let LineFault::Refused(reason) = row_fault(p, r, above) {
+        return LineRead::Refused(reason);
     }
-    let row = lines::row_of(raw);
+    let row = read_rows::row_of(raw);
     store::put_row(store, n as u8, row);
-    let rows = p.rows + 1;
-    LineRead::Kept(
-        Progress {
-            rows: rows,
-            flows: p.flows,
-            comms: p.comms,
-            claims: p.claims,
-            flow_least: p.flow_least,
-            comm_least: p.comm_least,
-            claim_least: p.claim_least,
-        },
-        next,
-    )
+    LineRead::Kept(p.with_row(), next)
 }
 
-// Reads the rest of a flow line behind its number, and keeps the set.
-fn keep_flow(file: &[u8], at: usize, n: u16, store: &mut [u8], p: Progress) -> LineRead
+// Reads the rest of a set's line behind its key, and keeps the set in its table.
+fn keep_set(file: &[u8], at: usize, n: u16, table: Table, store: &mut [u8], p: Progress) -> LineRead
     requires { ⌜ storeSize ≤ length (now store) ⌝ }
     requires { ⌜ Small p ⌝ }
-    ensures { λ r. ⌜ LineIs (readRest Flows n (now (file .entry)) at) p (now (store .entry)) r (now (store .exit)) ⌝ }
+    ensures { λ r. ⌜ LineIs (readRest (sectionOf table) n (now (file .entry)) at) p (now (store .entry)) r (now (store .exit)) ⌝ }
 {
-    let mut flags = [0u8; 161];
-    let SetRead::Found(e, fault) = lines::read_set(file, at, &mut flags) else {
+    let mut flags = [0u8; Store::MEMBERS];
+    let SetRead::Found(e, fault) = read_sets::read_set(file, at, &mut flags) else {
         return LineRead::Refused(Reason::NotALine);
     };
     let Next::At(next) = text::expect(file, e, b"]\n") else {
         return LineRead::Refused(Reason::NotALine);
     };
-    let later = p.comms + p.claims;
-    if 0 < later {
-        return LineRead::Refused(Reason::NotALine);
-    }
-    if lines::ROW_LIMIT <= n {
-        return LineRead::Refused(Reason::AboveLimit);
-    }
-    if fault == 3 {
-        return LineRead::Refused(Reason::AboveLimit);
-    }
-    if p.rows == 0 {
-        return LineRead::Refused(Reason::OutOfCount);
-    }
     let key = n as usize;
-    if key < p.flow_least {
-        return LineRead::Refused(Reason::NotRising);
+    if let LineFault::Refused(reason) = set_fault(p, table, key, fault) {
+        return LineRead::Refused(reason);
     }
-    if fault == 5 {
-        return LineRead::Refused(Reason::NotRising);
-    }
-    let base = Store::FLOWS + key * Store::MEMBERS;
-    put_flags(store, base, &flags);
-    let lines = p.flows + 1;
+    let place = place_of(table, key);
+    put_flags(store, place, &flags);
     let least = key + 1;
-    LineRead::Kept(
-        Progress {
-            rows: p.rows,
-            flows: lines,
-            comms: p.comms,
-            claims: p.claims,
-            flow_least: least,
-            comm_least: p.comm_least,
-            claim_least: p.claim_least,
-        },
-        next,
-    )
-}
-
-// Reads the rest of a comm line behind its number, and keeps the set.
-fn keep_comm(file: &[u8], at: usize, n: u16, store: &mut [u8], p: Progress) -> LineRead
-    requires { ⌜ storeSize ≤ length (now store) ⌝ }
-    requires { ⌜ Small p ⌝ }
-    ensures { λ r. ⌜ LineIs (readRest Comms n (now (file .entry)) at) p (now (store .entry)) r (now (store .exit)) ⌝ }
-{
-    let mut flags = [0u8; 161];
-    let SetRead::Found(e, fault) = lines::read_set(file, at, &mut flags) else {
-        return LineRead::Refused(Reason::NotALine);
-    };
-    let Next::At(next) = text::expect(file, e, b"]\n") else {
-        return LineRead::Refused(Reason::NotALine);
-    };
-    let later = p.claims;
-    if 0 < later {
-        return LineRead::Refused(Reason::NotALine);
-    }
-    if lines::ROW_LIMIT <= n {
-        return LineRead::Refused(Reason::AboveLimit);
-    }
-    if fault == 3 {
-        return LineRead::Refused(Reason::AboveLimit);
-    }
-    if p.rows == 0 {
-        return LineRead::Refused(Reason::OutOfCount);
-    }
-    let key = n as usize;
-    if key < p.comm_least {
-        return LineRead::Refused(Reason::NotRising);
-    }
-    if fault == 5 {
-        return LineRead::Refused(Reason::NotRising);
-    }
-    let base = Store::COMMS + key * Store::MEMBERS;
-    put_flags(store, base, &flags);
-    let lines = p.comms + 1;
-    let least = key + 1;
-    LineRead::Kept(
-        Progress {
-            rows: p.rows,
-            flows: p.flows,
-            comms: lines,
-            claims: p.claims,
-            flow_least: p.flow_least,
-            comm_least: least,
-            claim_least: p.claim_least,
-        },
-        next,
-    )
+    LineRead::Kept(p.with_set(table, least), next)
 }
 
 // Reads the rest of a claim's line behind its number, and keeps the claim.
@@ -214,39 +276,21 @@ fn keep_claim(file: &[u8], at: usize, n: u16, store: &mut [u8], p: Progress) -> 
     requires { ⌜ Small p ⌝ }
     ensures { λ r. ⌜ LineIs (readRest Claims n (now (file .entry)) at) p (now (store .entry)) r (now (store .exit)) ⌝ }
 {
-    let WordRead::Found(word, e) = lines::read_word(file, at) else {
+    let WordRead::Found(word, e) = read_words::read_word(file, at) else {
         return LineRead::Refused(Reason::NotALine);
     };
     let Next::At(next) = text::expect(file, e, b"]\n") else {
         return LineRead::Refused(Reason::NotALine);
     };
-    if lines::ROW_LIMIT <= n {
-        return LineRead::Refused(Reason::AboveLimit);
-    }
-    if p.rows == 0 {
-        return LineRead::Refused(Reason::OutOfCount);
-    }
     let c = n as usize;
-    if c < p.claim_least {
-        return LineRead::Refused(Reason::NotRising);
+    if let LineFault::Refused(reason) = claim_fault(p, c) {
+        return LineRead::Refused(reason);
     }
     let code = word_code(word);
     let place = Store::CLAIMS + c;
     store[place] = code;
-    let claims = p.claims + 1;
     let least = c + 1;
-    LineRead::Kept(
-        Progress {
-            rows: p.rows,
-            flows: p.flows,
-            comms: p.comms,
-            claims: claims,
-            flow_least: p.flow_least,
-            comm_least: p.comm_least,
-            claim_least: least,
-        },
-        next,
-    )
+    LineRead::Kept(p.with_claim(least), next)
 }
 
 // Reads the line at a position and keeps it.
@@ -255,7 +299,7 @@ fn load_line(file: &[u8], at: usize, store: &mut [u8], p: Progress) -> LineRead
     requires { ⌜ Small p ⌝ }
     ensures { λ r. ⌜ LineIs (readLine (now (file .entry)) at) p (now (store .entry)) r (now (store .exit)) ⌝ }
 {
-    let SectionRead::Found(section, q) = lines::read_section(file, at) else {
+    let SectionRead::Found(section, q) = read_words::read_section(file, at) else {
         return LineRead::Refused(Reason::NotALine);
     };
     let NumberRead::Found(n, e) = text::read_argument(file, q) else {
@@ -266,8 +310,8 @@ fn load_line(file: &[u8], at: usize, store: &mut [u8], p: Progress) -> LineRead
     };
     match section {
         Section::Rows => keep_row(file, rest, n, store, p),
-        Section::Flows => keep_flow(file, rest, n, store, p),
-        Section::Comms => keep_comm(file, rest, n, store, p),
+        Section::Flows => keep_set(file, rest, n, Table::Flow, store, p),
+        Section::Comms => keep_set(file, rest, n, Table::Comm, store, p),
         Section::Claims => keep_claim(file, rest, n, store, p),
     }
 }

@@ -8,6 +8,7 @@ ghost use Rattle.calls.specs.Layout.{storeSize};
 pub mod rows; // rows.rt: a row of the store, read and written
 pub mod scope; // scope.rt: uses out of scope, down the tree of rows
 
+pub use rows::form_of;
 pub use rows::put_row;
 pub use rows::row_at;
 pub use scope::NO_ROW;

@@ -40,44 +40,43 @@ fn cells_at(store: &[u8], r: u8) -> Cells
     }
 }
 
-// The form of a kind, 2 to 15, with its arguments.
-fn form_of(x: Cells) -> Form
-    ensures { λ f. ⌜ f ≡ formWith (x .kind) (x .a) (x .b) (x .c) (x .d) (x .e) ⌝ }
+// The form of a kind, 2 to 15, with its arguments. Any other kind reads as an apply.
+pub fn form_of(kind: u8, a: u8, b: u8, c: u8, d: u8, e: u8) -> Form
+    ensures { λ f. ⌜ f ≡ formWith kind a b c d e ⌝ }
 {
-    let kind = x.kind;
     match kind {
         2 => Form::Unit,
         3 => Form::Chan,
         4 => Form::Send {
-            channel: x.a,
-            message: x.b,
+            channel: a,
+            message: b,
         },
-        5 => Form::Recv { channel: x.a },
+        5 => Form::Recv { channel: a },
         6 => Form::Pair {
-            first: x.a,
-            second: x.b,
+            first: a,
+            second: b,
         },
-        7 => Form::Left { value: x.a },
-        8 => Form::Right { value: x.a },
+        7 => Form::Left { value: a },
+        8 => Form::Right { value: a },
         9 => Form::Fun {
-            own: x.a,
-            parameter: x.b,
-            body: x.c,
+            own: a,
+            parameter: b,
+            body: c,
         },
-        10 => Form::Spawn { child: x.a },
-        11 => Form::Sync { event: x.a },
-        12 => Form::First { pair: x.a },
-        13 => Form::Second { pair: x.a },
+        10 => Form::Spawn { child: a },
+        11 => Form::Sync { event: a },
+        12 => Form::First { pair: a },
+        13 => Form::Second { pair: a },
         14 => Form::Case {
-            subject: x.a,
-            left_name: x.b,
-            left: x.c,
-            right_name: x.d,
-            right: x.e,
+            subject: a,
+            left_name: b,
+            left: c,
+            right_name: d,
+            right: e,
         },
         _ => Form::Apply {
-            function: x.a,
-            argument: x.b,
+            function: a,
+            argument: b,
         },
     }
 }
@@ -89,7 +88,7 @@ fn row_of(x: Cells) -> Row
     if x.kind == 1 {
         return Row::Result(x.name);
     }
-    let form = form_of(x);
+    let form = form_of(x.kind, x.a, x.b, x.c, x.d, x.e);
     Row::Bind(Bind {
         name: x.name,
         form: form,

@@ -1,147 +1,142 @@
--- `load_line` meets its contract: section, number and space, and then the rest by the section.
-use Rattle.loading.proofs.Keeps.{line-kept}
-use Rattle.format.specs.declared.Section.the-variants.{Rows, Flows, Comms, Claims}
-use mathlib.Core.Option.{some}
-use Rattle.loading.proofs.Keeps.{unread, line-rest}
+use Rattle.loading.proofs.Keeps.{unread, line-kept}
+use Rattle.read_words.specs.Reads.{sectionRead}
 use Rattle.text.specs.Reads.{numberRead, nextRead}
-use Rattle.lines.specs.declared.SectionRead.{SectionRead}
-use Rattle.lines.specs.Reads.{sectionRead}
 use Rattle.format.specs.Read.{readLine}
 use Rattle.format.specs.Text.{ascii}
+use Rattle.format.specs.declared.Section.the-variants.{Rows, Flows, Comms, Claims}
 use Rattle.program.specs.Maybe.{_>>=_}
-use mathlib.Core.Path.{_≡_, sym, ap, _∙_}
+use mathlib.Core.Path.{sym, ap, _∙_}
 use borrow.Author.Needs.{needs}
 use Rattle.loading.proofs.load_line.Statement.{statement}
 use Rattle.loading.proofs.load_line.Tie as tie
 use Rattle.loading.proofs.load_line.Reads as reads
 use Rattle.loading.proofs.load_line.Lts as lts
-use Rattle.lines.proofs.read_section.Reads as read-section-reads
 use Rattle.loading.proofs.keep_claim.Reads as keep-claim-reads
-use Rattle.loading.proofs.keep_comm.Reads as keep-comm-reads
-use Rattle.loading.proofs.keep_flow.Reads as keep-flow-reads
 use Rattle.loading.proofs.keep_row.Reads as keep-row-reads
+use Rattle.loading.proofs.keep_set.Reads as keep-set-reads
+use Rattle.read_words.proofs.read_section.Reads as read-section-reads
 use Rattle.text.proofs.expect.Reads as expect-reads
 use Rattle.text.proofs.read_argument.Reads as read-argument-reads
 
--- src/lib.rt:261:42
+-- src/lib.rt:302:42
 read-section-requires : tie.Need-read-section-requires
 read-section-requires c κs = search needs
 
--- src/lib.rt:261:28
+-- src/lib.rt:302:28
 enum-known-section : tie.Need-enum-known-section
 enum-known-section c = search needs
 
--- src/lib.rt:262:34
+-- src/lib.rt:303:34
 enum-told : tie.Need-enum-told
 enum-told c = search needs
 
--- src/lib.rt:262:9
+-- src/lib.rt:303:9
 returns : tie.Need-returns
 unfolding readLine _>>=_
 returns c = unread _ _ _ (rw (← (c .before .before .read-section .ensures), c .enum-told .given .1))
 
--- src/lib.rt:264:35
+-- src/lib.rt:305:35
 read-argument-requires : tie.Need-read-argument-requires
 read-argument-requires c κs = search needs
 
--- src/lib.rt:264:27
+-- src/lib.rt:305:27
 enum-known-n : tie.Need-enum-known-n
 enum-known-n c = search needs
 
--- src/lib.rt:265:34
+-- src/lib.rt:306:34
 enum-told-2 : tie.Need-enum-told-2
 enum-told-2 c = search needs
 
--- src/lib.rt:265:9
+-- src/lib.rt:306:9
 returns-2 : tie.Need-returns-2
 unfolding readLine _>>=_
 returns-2 c = unread _ _ _ (rw (← (c .before .before .before .before .before .before .read-section .ensures), c .before .before .before .before .section .given .1, ← (c .before .before .read-argument .ensures), c .enum-told2 .given .1))
 
--- src/lib.rt:267:48
+-- src/lib.rt:308:48
 slice-aggregate-expect : tie.Need-slice-aggregate-expect
 slice-aggregate-expect c = search needs
 
--- src/lib.rt:267:26
+-- src/lib.rt:308:26
 expect-requires : tie.Need-expect-requires
 expect-requires c κs = search needs
 
--- src/lib.rt:267:18
+-- src/lib.rt:308:18
 enum-known-rest : tie.Need-enum-known-rest
 enum-known-rest c = search needs
 
--- src/lib.rt:268:34
+-- src/lib.rt:309:34
 enum-told-3 : tie.Need-enum-told-3
 enum-told-3 c = search needs
 
--- src/lib.rt:268:9
+-- src/lib.rt:309:9
 returns-3 : tie.Need-returns-3
 unfolding readLine ascii _>>=_
 returns-3 c = unread _ _ _ (rw (← (c .before .before .before .before .before .before .before .before .before .before .before .read-section .ensures), c .before .before .before .before .before .before .before .before .before .section .given .1, ← (c .before .before .before .before .before .before .before .read-argument .ensures), c .before .before .before .before .before .n .given .1, ← (c .before .before .expect .ensures), c .enum-told3 .given .1))
 
--- src/lib.rt:271:50
+-- src/lib.rt:312:50
 enum-told-4 : tie.Need-enum-told-4
 enum-told-4 c = search needs
 
--- src/lib.rt:271:26
+-- src/lib.rt:312:26
 keep-row-requires : tie.Need-keep-row-requires
 keep-row-requires c κs = search needs
 
--- src/lib.rt:272:52
+-- src/lib.rt:313:51
 enum-told-5 : tie.Need-enum-told-5
 enum-told-5 c = search needs
 
--- src/lib.rt:272:27
-keep-flow-requires : tie.Need-keep-flow-requires
-keep-flow-requires c κs = search needs
+-- src/lib.rt:313:27
+keep-set-requires : tie.Need-keep-set-requires
+keep-set-requires c κs = search needs
 
--- src/lib.rt:273:52
+-- src/lib.rt:314:51
 enum-told-6 : tie.Need-enum-told-6
 enum-told-6 c = search needs
 
--- src/lib.rt:273:27
-keep-comm-requires : tie.Need-keep-comm-requires
-keep-comm-requires c κs = search needs
+-- src/lib.rt:314:27
+keep-set-requires-2 : tie.Need-keep-set-requires-2
+keep-set-requires-2 c κs = search needs
 
--- src/lib.rt:274:54
+-- src/lib.rt:315:54
 enum-told-7 : tie.Need-enum-told-7
 enum-told-7 c = search needs
 
--- src/lib.rt:274:28
+-- src/lib.rt:315:28
 keep-claim-requires : tie.Need-keep-claim-requires
 keep-claim-requires c κs = search needs
 
--- src/lib.rt:256:1
+-- src/lib.rt:297:1
 same-length : tie.Need-same-length
 same-length c = search needs
 
--- src/lib.rt:256:1
+-- src/lib.rt:297:1
 returns-4 : tie.Need-returns-4
 unfolding ascii
 returns-4 c = line-kept _ _ _ _ _ _ _ Rows (sym (c .before .before .before .before .before .before .before .before .before .before .before .before .before .before .before .before .before .before .read-section .ensures) ∙ ap sectionRead (c .before .before .before .before .before .before .before .before .before .before .before .before .before .before .before .before .section .given .1)) (c .before .before .before .before .enum-told4 .given .1) (sym (c .before .before .before .before .before .before .before .before .before .before .before .before .before .before .read-argument .ensures) ∙ ap numberRead (c .before .before .before .before .before .before .before .before .before .before .before .before .n .given .1)) (sym (c .before .before .before .before .before .before .before .before .before .expect .ensures) ∙ ap nextRead (c .before .before .before .before .before .before .before .rest .given .1)) (c .before .before .keep-row .ensures)
 
--- src/lib.rt:256:1
+-- src/lib.rt:297:1
 same-length-2 : tie.Need-same-length-2
 same-length-2 c = search needs
 
--- src/lib.rt:256:1
+-- src/lib.rt:297:1
 returns-5 : tie.Need-returns-5
 unfolding ascii
-returns-5 c = line-kept _ _ _ _ _ _ _ Flows (sym (c .before .before .before .before .before .before .before .before .before .before .before .before .before .before .before .before .before .before .read-section .ensures) ∙ ap sectionRead (c .before .before .before .before .before .before .before .before .before .before .before .before .before .before .before .before .section .given .1)) (c .before .before .before .before .enum-told5 .given .1) (sym (c .before .before .before .before .before .before .before .before .before .before .before .before .before .before .read-argument .ensures) ∙ ap numberRead (c .before .before .before .before .before .before .before .before .before .before .before .before .n .given .1)) (sym (c .before .before .before .before .before .before .before .before .before .expect .ensures) ∙ ap nextRead (c .before .before .before .before .before .before .before .rest .given .1)) (c .before .before .keep-flow .ensures)
+returns-5 c = line-kept _ _ _ _ _ _ _ Flows (sym (c .before .before .before .before .before .before .before .before .before .before .before .before .before .before .before .before .before .before .read-section .ensures) ∙ ap sectionRead (c .before .before .before .before .before .before .before .before .before .before .before .before .before .before .before .before .section .given .1)) (c .before .before .before .before .enum-told5 .given .1) (sym (c .before .before .before .before .before .before .before .before .before .before .before .before .before .before .read-argument .ensures) ∙ ap numberRead (c .before .before .before .before .before .before .before .before .before .before .before .before .n .given .1)) (sym (c .before .before .before .before .before .before .before .before .before .expect .ensures) ∙ ap nextRead (c .before .before .before .before .before .before .before .rest .given .1)) (c .before .before .keep-set .ensures)
 
--- src/lib.rt:256:1
+-- src/lib.rt:297:1
 same-length-3 : tie.Need-same-length-3
 same-length-3 c = search needs
 
--- src/lib.rt:256:1
+-- src/lib.rt:297:1
 returns-6 : tie.Need-returns-6
 unfolding ascii
-returns-6 c = line-kept _ _ _ _ _ _ _ Comms (sym (c .before .before .before .before .before .before .before .before .before .before .before .before .before .before .before .before .before .before .read-section .ensures) ∙ ap sectionRead (c .before .before .before .before .before .before .before .before .before .before .before .before .before .before .before .before .section .given .1)) (c .before .before .before .before .enum-told6 .given .1) (sym (c .before .before .before .before .before .before .before .before .before .before .before .before .before .before .read-argument .ensures) ∙ ap numberRead (c .before .before .before .before .before .before .before .before .before .before .before .before .n .given .1)) (sym (c .before .before .before .before .before .before .before .before .before .expect .ensures) ∙ ap nextRead (c .before .before .before .before .before .before .before .rest .given .1)) (c .before .before .keep-comm .ensures)
+returns-6 c = line-kept _ _ _ _ _ _ _ Comms (sym (c .before .before .before .before .before .before .before .before .before .before .before .before .before .before .before .before .before .before .read-section .ensures) ∙ ap sectionRead (c .before .before .before .before .before .before .before .before .before .before .before .before .before .before .before .before .section .given .1)) (c .before .before .before .before .enum-told6 .given .1) (sym (c .before .before .before .before .before .before .before .before .before .before .before .before .before .before .read-argument .ensures) ∙ ap numberRead (c .before .before .before .before .before .before .before .before .before .before .before .before .n .given .1)) (sym (c .before .before .before .before .before .before .before .before .before .expect .ensures) ∙ ap nextRead (c .before .before .before .before .before .before .before .rest .given .1)) (c .before .before .keep-set2 .ensures)
 
--- src/lib.rt:256:1
+-- src/lib.rt:297:1
 same-length-4 : tie.Need-same-length-4
 same-length-4 c = search needs
 
--- src/lib.rt:256:1
+-- src/lib.rt:297:1
 returns-7 : tie.Need-returns-7
 unfolding ascii
 returns-7 c = line-kept _ _ _ _ _ _ _ Claims (sym (c .before .before .before .before .before .before .before .before .before .before .before .before .before .before .before .before .before .before .read-section .ensures) ∙ ap sectionRead (c .before .before .before .before .before .before .before .before .before .before .before .before .before .before .before .before .section .given .1)) (c .before .before .before .before .enum-told7 .given .1) (sym (c .before .before .before .before .before .before .before .before .before .before .before .before .before .before .read-argument .ensures) ∙ ap numberRead (c .before .before .before .before .before .before .before .before .before .before .before .before .n .given .1)) (sym (c .before .before .before .before .before .before .before .before .before .expect .ensures) ∙ ap nextRead (c .before .before .before .before .before .before .before .rest .given .1)) (c .before .before .keep-claim .ensures)
@@ -166,9 +161,9 @@ load-line-spec =
     enum-told-4
     keep-row-requires
     enum-told-5
-    keep-flow-requires
+    keep-set-requires
     enum-told-6
-    keep-comm-requires
+    keep-set-requires-2
     enum-told-7
     keep-claim-requires
     same-length

@@ -2,13 +2,12 @@
 use borrow.Author.Needs.{needs}
 use Prim.Native.Nat.{ℕ, _≤_, _<_, _-_, _+_}
 use native.Mathlib.Numerals.{add-one}
-use mathlib.Core.List.{List, append-assoc}
+use mathlib.Core.List.{List}
 use mathlib.Core.Path.{_≡_, refl, sym, ap, _∙_}
 use native.Mathlib.Omega.{arith}
 use denote.Ref.{now}
 use lib.ListN.{length, take, drop, set, getD, length-set}
-use lib.Seq.{paste, paste-zero, paste-suc, take-all}
-use Rattle.loading.specs.Progress.{patched}
+use lib.Seq.{sets, sets-eq, paste, paste-zero, paste-suc, take-all}
 use Rattle.loading.proofs.put_flags.Statement.{statement}
 use Rattle.loading.proofs.put_flags.Tie as tie
 use Rattle.loading.proofs.put_flags.Reads as reads
@@ -24,8 +23,8 @@ abbrev μ-loop : tie.MeasureT-loop
 one-more : (s d : List ℕ) (at : ℕ) (f : List ℕ) (i : ℕ) → s ≡ paste d at f i → at + i < length d → i < length f → set s (at + i) (getD f i 0) ≡ paste d at f (i + 1)
 one-more s d at f i e h l = rw (e, add-one) (paste-suc d at f i 0 h l)
 
-whole : (s d : List ℕ) (at : ℕ) (f : List ℕ) (i : ℕ) → s ≡ paste d at f i → i ≡ length f → s ≡ patched at f d
-whole s d at f i e q = e ∙ rw q (rw (take-all (length f) f (omega arith)) (append-assoc (take at d) f (drop (at + length f) d)))
+whole : (s d : List ℕ) (at : ℕ) (f : List ℕ) (i : ℕ) → s ≡ paste d at f i → i ≡ length f → at + length f ≤ length d → s ≡ sets d at f
+whole s d at f i e q h = e ∙ rw (q, take-all (length f) f (omega arith)) (sym (sets-eq f d at h))
 
 -- src/lib.rt:31:5
 loop-holds : tie.Need-loop-holds Inv-loop μ-loop
@@ -61,7 +60,7 @@ same-length c = search needs
 
 -- src/lib.rt:26:1
 returns : tie.Need-returns Inv-loop μ-loop
-returns c = let e : c .before .loop .i ≡ length (c .before .before .args .flags .now) = omega arith in whole (c .before .loop .store) (c .before .before .args .store .now) (c .before .before .args .base) (c .before .before .args .flags .now) (c .before .loop .i) (c .before .loop .inv .2) e
+returns c = let e : c .before .loop .i ≡ length (c .before .before .args .flags .now) = omega arith in whole (c .before .loop .store) (c .before .before .args .store .now) (c .before .before .args .base) (c .before .before .args .flags .now) (c .before .loop .i) (c .before .loop .inv .2) e (omega arith)
 
 pub put-flags-spec : {M : Type 1} → statement M
 put-flags-spec =

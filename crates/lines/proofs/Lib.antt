@@ -1,7 +1,0 @@
--- Laws that the proofs of the functions share.
-pub mod Words
-pub mod Rows
-pub mod Limits
-pub mod Marks
-pub mod Faults
-pub mod Members

@@ -1,3 +1,0 @@
--- What the answers of this crate say, in the terms of the format's definitions.
-pub mod Reads
-pub mod Sets

@@ -1,0 +1,2 @@
+-- What reading a set promises.
+pub mod Sets
