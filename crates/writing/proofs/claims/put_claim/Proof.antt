@@ -5,7 +5,8 @@ use Rattle.format.specs.Print.{lineText}
 use Rattle.format.specs.Text.{ascii}
 use Rattle.calls.specs.Layout.{decodeClaims}
 use Rattle.text.proofs.Writing.{nothing, then, room-first, room-then}
-use Rattle.writing.proofs.Parts.{one-claim, room-head, room-behind, then-behind}
+use Rattle.text.proofs.Head.{room-head, room-behind, then-behind}
+use Rattle.writing.proofs.Parts.{one-claim}
 use Rattle.writing.proofs.claims.put_claim.Statement.{statement}
 use Rattle.writing.proofs.claims.put_claim.Tie as tie
 
