@@ -1,13 +1,20 @@
-// Forms, rows and their lines, written into a slice at a position. What does not fit the slice is not written, and counts all the same.
-use program::Form;
-use program::Row;
+// Rows and their lines, written into a slice at a position. What does not fit the slice is not written, and counts all the same.
+// A row is read as it stands in the store: its kind, its name, its rest and five numbers.
+use store::Store;
+use store::arity;
+use store::form_place;
+ghost use mathlib.Core.Path.{_≡_};
+ghost use Prim.Native.Nat.{_≤_, _-_};
+ghost use lib.ListN.{length, take, drop};
 ghost use Rattle.program.specs.Each.{collect};
 ghost use Rattle.format.specs.Text.{arguments};
+ghost use Rattle.format.specs.Forms.{formOf};
 ghost use Rattle.format.specs.Print.{formText, rowText, lineText, rowLines};
 ghost use Rattle.format.specs.Document.{row};
+ghost use Rattle.calls.specs.Layout.{rowSize, storeSize, rowOf};
 ghost use Rattle.store.specs.Rows.{storeProgram};
 ghost use Rattle.text.specs.Write.{Room, Wrote};
-ghost use Rattle.write_rows.specs.Texts.{listText};
+ghost use Rattle.write_rows.specs.Texts.{kindWord, resultText};
 
 // Writes numbers, each with a space before it.
 fn put_arguments(out: &mut [u8], at: usize, numbers: &[u8]) -> usize
@@ -24,75 +31,78 @@ fn put_arguments(out: &mut [u8], at: usize, numbers: &[u8]) -> usize
     next
 }
 
-// Writes a word and numbers in brackets; the word has the first bracket.
-fn put_list(out: &mut [u8], at: usize, word: &[u8], numbers: &[u8]) -> usize
-    requires { ⌜ Room at (listText (now word) (now numbers)) ⌝ }
-    ensures { λ r. ⌜ Wrote (now (out .entry)) at (listText (now (word .entry)) (now (numbers .entry))) r (now (out .exit)) ⌝ }
+// Writes a part of a text.
+fn put_part(out: &mut [u8], at: usize, text: &[u8], from: usize, to: usize) -> usize
+    requires { ⌜ (from ≤ to) × (to ≤ length (now text)) ⌝ }
+    requires { ⌜ Room at (take (to - from) (drop from (now text))) ⌝ }
+    ensures { λ r. ⌜ Wrote (now (out .entry)) at (take (to - from) (drop from (now (text .entry)))) r (now (out .exit)) ⌝ }
 {
-    let p = text::put_word(out, at, word);
-    let q = put_arguments(out, p, numbers);
+    text::put_word(out, at, &text[from..to])
+}
+
+// Writes the word of a kind, with the bracket before it.
+fn put_kind(out: &mut [u8], at: usize, kind: u8) -> usize
+    requires { ⌜ Room at (kindWord kind) ⌝ }
+    ensures { λ r. ⌜ Wrote (now (out .entry)) at (kindWord kind) r (now (out .exit)) ⌝ }
+{
+    let starts = [0, 5, 10, 15, 20, 25, 30, 36, 40, 46, 51, 57, 64, 69, 75];
+    let p = form_place(kind);
+    let from = starts[p];
+    let to = starts[p + 1];
+    put_part(
+        out,
+        at,
+        b"[unit[chan[send[recv[pair[left[right[fun[spawn[sync[first[second[case[apply",
+        from,
+        to,
+    )
+}
+
+// Writes the form of a kind and five numbers, of which it holds the first.
+fn put_form(out: &mut [u8], at: usize, kind: u8, numbers: &[u8]) -> usize
+    requires { ⌜ length (now numbers) ≡ 5 ⌝ }
+    requires { ⌜ Room at (formText (formOf kind (now numbers))) ⌝ }
+    ensures { λ r. ⌜ Wrote (now (out .entry)) at (formText (formOf kind (now (numbers .entry)))) r (now (out .exit)) ⌝ }
+{
+    let count = arity(kind);
+    let p = put_kind(out, at, kind);
+    let q = put_arguments(out, p, &numbers[..count]);
     text::put_byte(out, q, 93)
 }
 
-// Writes a form.
-fn put_form(out: &mut [u8], at: usize, form: Form) -> usize
-    requires { ⌜ Room at (formText form) ⌝ }
-    ensures { λ r. ⌜ Wrote (now (out .entry)) at (formText form) r (now (out .exit)) ⌝ }
+// Writes a result row.
+fn put_result(out: &mut [u8], at: usize, name: u8) -> usize
+    requires { ⌜ Room at (resultText name) ⌝ }
+    ensures { λ r. ⌜ Wrote (now (out .entry)) at (resultText name) r (now (out .exit)) ⌝ }
 {
-    match form {
-        Form::Unit => text::put_word(out, at, b"[unit]"),
-        Form::Chan => text::put_word(out, at, b"[chan]"),
-        Form::Send { channel, message } => put_list(out, at, b"[send", &[channel, message]),
-        Form::Recv { channel } => put_list(out, at, b"[recv", &[channel]),
-        Form::Pair { first, second } => put_list(out, at, b"[pair", &[first, second]),
-        Form::Left { value } => put_list(out, at, b"[left", &[value]),
-        Form::Right { value } => put_list(out, at, b"[right", &[value]),
-        Form::Fun {
-            own,
-            parameter,
-            body,
-        } => put_list(out, at, b"[fun", &[own, parameter, body]),
-        Form::Spawn { child } => put_list(out, at, b"[spawn", &[child]),
-        Form::Sync { event } => put_list(out, at, b"[sync", &[event]),
-        Form::First { pair } => put_list(out, at, b"[first", &[pair]),
-        Form::Second { pair } => put_list(out, at, b"[second", &[pair]),
-        Form::Case {
-            subject,
-            left_name,
-            left,
-            right_name,
-            right,
-        } => put_list(
-            out,
-            at,
-            b"[case",
-            &[subject, left_name, left, right_name, right],
-        ),
-        Form::Apply { function, argument } => put_list(out, at, b"[apply", &[function, argument]),
-    }
+    let p = text::put_word(out, at, b"[result");
+    let q = text::put_argument(out, p, name as u16);
+    text::put_byte(out, q, 93)
 }
 
 // Writes a row.
-fn put_row(out: &mut [u8], at: usize, row: Row) -> usize
-    requires { ⌜ Room at (rowText row) ⌝ }
-    ensures { λ r. ⌜ Wrote (now (out .entry)) at (rowText row) r (now (out .exit)) ⌝ }
+fn put_row(out: &mut [u8], at: usize, row: &[u8]) -> usize
+    requires { ⌜ length (now row) ≡ rowSize ⌝ }
+    requires { ⌜ Room at (rowText (rowOf (now row))) ⌝ }
+    ensures { λ r. ⌜ Wrote (now (out .entry)) at (rowText (rowOf (now (row .entry)))) r (now (out .exit)) ⌝ }
 {
-    match row {
-        Row::Result(n) => put_list(out, at, b"[result", &[n]),
-        Row::Bind(b) => {
-            let form = b.form;
-            let p = text::put_head(out, at, b"[bind", b.name as u16);
-            let q = put_form(out, p, form);
-            let s = text::put_argument(out, q, b.rest as u16);
-            text::put_byte(out, s, 93)
-        }
+    let kind = row[0];
+    let name = row[1];
+    let rest = row[2];
+    if kind == 1 {
+        return put_result(out, at, name);
     }
+    let p = text::put_head(out, at, b"[bind", name as u16);
+    let q = put_form(out, p, kind, &row[3..]);
+    let s = text::put_argument(out, q, rest as u16);
+    text::put_byte(out, s, 93)
 }
 
 // Writes the line of row r.
-fn put_row_line(out: &mut [u8], at: usize, r: u8, x: Row) -> usize
-    requires { ⌜ Room at (lineText (row r x)) ⌝ }
-    ensures { λ y. ⌜ Wrote (now (out .entry)) at (lineText (row r x)) y (now (out .exit)) ⌝ }
+fn put_row_line(out: &mut [u8], at: usize, r: u8, x: &[u8]) -> usize
+    requires { ⌜ length (now x) ≡ rowSize ⌝ }
+    requires { ⌜ Room at (lineText (row r (rowOf (now x)))) ⌝ }
+    ensures { λ y. ⌜ Wrote (now (out .entry)) at (lineText (row r (rowOf (now (x .entry))))) y (now (out .exit)) ⌝ }
 {
     let p = text::put_head(out, at, b"[row", r as u16);
     let q = put_row(out, p, x);
@@ -101,14 +111,16 @@ fn put_row_line(out: &mut [u8], at: usize, r: u8, x: Row) -> usize
 
 // Writes the lines of the first rows of a store.
 pub fn put_rows(out: &mut [u8], at: usize, store: &[u8], rows: u8) -> usize
+    requires { ⌜ storeSize ≤ length (now store) ⌝ }
     requires { ⌜ Room at (collect lineText (rowLines 0 (storeProgram rows (now store)))) ⌝ }
     ensures { λ y. ⌜ Wrote (now (out .entry)) at (collect lineText (rowLines 0 (storeProgram rows (now (store .entry))))) y (now (out .exit)) ⌝ }
 {
     let mut next = at;
     let mut r = 0;
     while r < rows {
-        let x = store::row_at(store, r);
-        next = put_row_line(out, next, r, x);
+        let from = r as usize * Store::ROW_SIZE;
+        let to = from + Store::ROW_SIZE;
+        next = put_row_line(out, next, r, &store[from..to]);
         r += 1;
     }
     next

@@ -36,7 +36,11 @@ loop-less : tie.Need-loop-less Inv-loop μ-loop
 loop-less c = search needs
 
 loop-again : tie.Need-loop-again Inv-loop μ-loop
-loop-again c = (omega arith, onward (same-rest (arguments-next _ _ (c .before .before .before .before .before .loop-test .taken)) (c .before .before .before .before .before .before .loop .inv .1)) (c .before .before .put-argument .ensures))
+loop-again c =
+    let at-put-argument = c .before .before in
+    let at-loop-test = at-put-argument .before .before .before in
+    let at-loop = at-loop-test .before in
+    (omega arith, onward (same-rest (arguments-next _ _ (at-loop-test .loop-test .taken)) (at-loop .loop .inv .1)) (at-put-argument .put-argument .ensures))
 
 same-length : tie.Need-same-length Inv-loop μ-loop
 same-length c = kept (c .before .loop .inv .1)

@@ -47,13 +47,21 @@ loop-less : tie.Need-loop-less Inv-loop μ-loop
 loop-less c = search needs
 
 loop-again : tie.Need-loop-again Inv-loop μ-loop
-loop-again c = (omega arith, omega arith, omega (arith, c .before .before .before .before .loop .inv .2, entry-counted rowLimit _ _ (c .before .before .before .loop-test .taken) (sym (c .before .has-member .ensures) ∙ c .if1 .taken)))
+loop-again c =
+    let at-has-member = c .before in
+    let at-loop-test = at-has-member .before .before in
+    let at-loop = at-loop-test .before in
+    (omega arith, omega arith, omega (arith, at-loop .loop .inv .2, entry-counted rowLimit _ _ (at-loop-test .loop-test .taken) (sym (at-has-member .has-member .ensures) ∙ c .if1 .taken)))
 
 loop-less-2 : tie.Need-loop-less-2 Inv-loop μ-loop
 loop-less-2 c = search needs
 
 loop-again-2 : tie.Need-loop-again-2 Inv-loop μ-loop
-loop-again-2 c = (omega arith, omega arith, omega (arith, c .before .before .before .before .loop .inv .2, entry-skipped rowLimit _ _ (c .before .before .before .loop-test .taken) (sym (c .before .has-member .ensures) ∙ c .if1 .left)))
+loop-again-2 c =
+    let at-has-member = c .before in
+    let at-loop-test = at-has-member .before .before in
+    let at-loop = at-loop-test .before in
+    (omega arith, omega arith, omega (arith, at-loop .loop .inv .2, entry-skipped rowLimit _ _ (at-loop-test .loop-test .taken) (sym (at-has-member .has-member .ensures) ∙ c .if1 .left)))
 
 returns : tie.Need-returns Inv-loop μ-loop
 returns c = omega (arith, c .before .loop .inv .2, entries-end rowLimit _ (c .before .before .before .args .sets .now) (c .loop-test .left))

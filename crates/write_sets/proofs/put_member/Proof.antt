@@ -34,7 +34,10 @@ same-length-2 c = search needs
 
 returns-2 : tie.Need-returns-2
 unfolding memberText
-returns-2 c = let e : c .before .before .before .before .before .before .args .m ≡ suc (c .before .before .before .before .before .before .args .m - 1) = omega arith in rw e (c .before .before .put-number .ensures)
+returns-2 c =
+    let at-put-number = c .before .before in
+    let start = at-put-number .before .before .before .before in
+    let e : start .args .m ≡ suc (start .args .m - 1) = omega arith in rw e (at-put-number .put-number .ensures)
 
 pub put-member-spec : {M : Type 1} → statement M
 put-member-spec =

@@ -37,11 +37,24 @@ loop-again c = (omega arith, same-rest (ap (leftText _) (skip _ _ (c .before .be
 
 put-byte-requires : tie.Need-put-byte-requires Inv-loop μ-loop
 unfolding leftText
-put-byte-requires c κs = room-first _ _ (room-left (same-rest (ap (leftText _) (keep _ _ (c .before .before .before .loop-test .taken) (c .before .if1 .left))) (c .before .before .before .before .loop .inv .1)))
+put-byte-requires c κs =
+    let at-if1 = c .before in
+    let at-loop-test = at-if1 .before .before in
+    let at-loop = at-loop-test .before in
+    room-first _ _ (room-left (same-rest (ap (leftText _) (keep _ _ (at-loop-test .loop-test .taken) (at-if1 .if1 .left))) (at-loop .loop .inv .1)))
 
 put-member-requires : tie.Need-put-member-requires Inv-loop μ-loop
 unfolding leftText
-put-member-requires c κs = (omega (arith, c .before .before .before .before .before .before .before .before .before .before .before .pre .0), room-first _ _ (room-left (onward (same-rest (ap (leftText _) (keep _ _ (c .before .before .before .before .before .before .before .loop-test .taken) (c .before .before .before .before .before .if1 .left))) (c .before .before .before .before .before .before .before .before .loop .inv .1)) (c .before .before .before .put-byte .ensures))))
+put-member-requires c κs =
+    let at-put-byte = c .before .before .before in
+    let at-if1 = at-put-byte .before .before in
+    let at-loop-test = at-if1 .before .before in
+    let at-loop = at-loop-test .before in
+    let start = at-loop .before .before .before in (
+      omega (arith, start .pre .0),
+      room-first _ _
+          (room-left (onward (same-rest (ap (leftText _) (keep _ _ (at-loop-test .loop-test .taken) (at-if1 .if1 .left))) (at-loop .loop .inv .1)) (at-put-byte .put-byte .ensures))),
+    )
 
 add-m-2 : tie.Need-add-m-2 Inv-loop μ-loop
 add-m-2 c = search needs
@@ -51,7 +64,17 @@ loop-less-2 c = search needs
 
 loop-again-2 : tie.Need-loop-again-2 Inv-loop μ-loop
 unfolding leftText
-loop-again-2 c = (omega arith, same-rest (left-others _) (onward (onward (same-rest (ap (leftText _) (keep _ _ (c .before .before .before .before .before .before .before .before .before .before .loop-test .taken) (c .before .before .before .before .before .before .before .before .if1 .left))) (c .before .before .before .before .before .before .before .before .before .before .before .loop .inv .1)) (c .before .before .before .before .before .before .put-byte .ensures)) (c .before .before .put-member .ensures)))
+loop-again-2 c =
+    let at-put-member = c .before .before in
+    let at-put-byte = at-put-member .before .before .before .before in
+    let at-if1 = at-put-byte .before .before in
+    let at-loop-test = at-if1 .before .before in
+    let at-loop = at-loop-test .before in (
+      omega arith,
+      same-rest (left-others _) (onward
+          (onward (same-rest (ap (leftText _) (keep _ _ (at-loop-test .loop-test .taken) (at-if1 .if1 .left))) (at-loop .loop .inv .1)) (at-put-byte .put-byte .ensures))
+          (at-put-member .put-member .ensures)),
+    )
 
 put-byte-requires-2 : tie.Need-put-byte-requires-2 Inv-loop μ-loop
 unfolding leftText ascii
@@ -62,7 +85,11 @@ same-length c = c .before .before .put-byte2 .kept .0 ∙ kept (c .before .befor
 
 returns : tie.Need-returns Inv-loop μ-loop
 unfolding leftText ascii
-returns c = last (same-rest (ap (leftText _) (none-left _ _ (c .before .before .before .before .loop-test .left))) (c .before .before .before .before .before .loop .inv .1)) (c .before .before .put-byte2 .ensures)
+returns c =
+    let at-put-byte2 = c .before .before in
+    let at-loop-test = at-put-byte2 .before .before in
+    let at-loop = at-loop-test .before in
+    last (same-rest (ap (leftText _) (none-left _ _ (at-loop-test .loop-test .left))) (at-loop .loop .inv .1)) (at-put-byte2 .put-byte2 .ensures)
 
 pub put-set-spec : {M : Type 1} → statement M
 put-set-spec =

@@ -20,24 +20,53 @@ unfolding collect withEntry
 returns c = rw (present-cases _ (sym (c .before .has-member .ensures) ∙ not-true _ (c .if1 .taken))) nothing
 
 put-head-requires : tie.Need-put-head-requires
-put-head-requires c κs = room-head _ _ _ (rw (one-entry _ _ _ (sym (c .before .before .has-member .ensures) ∙ not-false _ (c .before .if1 .left))) at (c .before .before .before .before .before .before .pre .1))
+put-head-requires c κs =
+    let at-if1 = c .before in
+    let at-has-member = at-if1 .before in
+    let start = at-has-member .before .before .before .before in
+    room-head _ _ _ (rw (one-entry _ _ _ (sym (at-has-member .has-member .ensures) ∙ not-false _ (at-if1 .if1 .left))) at (start .pre .1))
 
 put-set-requires : tie.Need-put-set-requires
-put-set-requires c κs = (c .before .before .before .before .before .before .before .before .before .before .pre .0, (sym (c .before .before .before .before .before .before .has-member .ensures) ∙ not-false _ (c .before .before .before .before .before .if1 .left), room-first _ _ (room-behind _ _ _ (c .before .before .before .put-head .ensures) (rw (one-entry _ _ _ (sym (c .before .before .before .before .before .before .has-member .ensures) ∙ not-false _ (c .before .before .before .before .before .if1 .left))) at (c .before .before .before .before .before .before .before .before .before .before .pre .1)))))
+put-set-requires c κs =
+    let at-put-head = c .before .before .before in
+    let at-if1 = at-put-head .before .before in
+    let at-has-member = at-if1 .before in
+    let start = at-has-member .before .before .before .before in (
+      start .pre .0,
+      (
+        sym (at-has-member .has-member .ensures) ∙ not-false _ (at-if1 .if1 .left),
+        room-first _ _
+            (room-behind _ _ _ (at-put-head .put-head .ensures) (rw (one-entry _ _ _ (sym (at-has-member .has-member .ensures) ∙ not-false _ (at-if1 .if1 .left))) at (start .pre .1))),
+      ),
+    )
 
 slice-aggregate-put-word : tie.Need-slice-aggregate-put-word
 slice-aggregate-put-word c = search needs
 
 put-word-requires : tie.Need-put-word-requires
 unfolding ascii
-put-word-requires c κs = room-then _ (c .before .before .before .before .put-set .ensures) (room-behind _ _ _ (c .before .before .before .before .before .before .before .before .put-head .ensures) (rw (one-entry _ _ _ (sym (c .before .before .before .before .before .before .before .before .before .before .before .has-member .ensures) ∙ not-false _ (c .before .before .before .before .before .before .before .before .before .before .if1 .left))) at (c .before .before .before .before .before .before .before .before .before .before .before .before .before .before .before .pre .1)))
+put-word-requires c κs =
+    let at-put-set = c .before .before .before .before in
+    let at-put-head = at-put-set .before .before .before .before in
+    let at-if1 = at-put-head .before .before in
+    let at-has-member = at-if1 .before in
+    let start = at-has-member .before .before .before .before in
+    room-then _ (at-put-set .put-set .ensures)
+    (room-behind _ _ _ (at-put-head .put-head .ensures) (rw (one-entry _ _ _ (sym (at-has-member .has-member .ensures) ∙ not-false _ (at-if1 .if1 .left))) at (start .pre .1)))
 
 same-length : tie.Need-same-length
 same-length c = search needs
 
 returns-2 : tie.Need-returns-2
 unfolding ascii
-returns-2 c = rw (one-entry _ _ _ (sym (c .before .before .before .before .before .before .before .before .before .before .before .before .before .before .has-member .ensures) ∙ not-false _ (c .before .before .before .before .before .before .before .before .before .before .before .before .before .if1 .left))) (then-behind _ _ _ (c .before .before .before .before .before .before .before .before .before .before .before .put-head .ensures) (then (c .before .before .before .before .before .before .before .put-set .ensures) (c .before .before .put-word .ensures)))
+returns-2 c =
+    let at-put-word = c .before .before in
+    let at-put-set = at-put-word .before .before .before .before .before in
+    let at-put-head = at-put-set .before .before .before .before in
+    let at-if1 = at-put-head .before .before in
+    let at-has-member = at-if1 .before in
+    rw (one-entry _ _ _ (sym (at-has-member .has-member .ensures) ∙ not-false _ (at-if1 .if1 .left)))
+    (then-behind _ _ _ (at-put-head .put-head .ensures) (then (at-put-set .put-set .ensures) (at-put-word .put-word .ensures)))
 
 pub put-set-line-spec : {M : Type 1} → statement M
 put-set-line-spec =

@@ -42,7 +42,10 @@ part-put-set-line-end : tie.Need-part-put-set-line-end Inv-loop μ-loop
 part-put-set-line-end c = search needs
 
 put-set-line-requires : tie.Need-put-set-line-requires Inv-loop μ-loop
-put-set-line-requires c κs = (simp length-take (omega arith), room-first _ _ (room-left (same-rest (sets-next _ _ _ _ (c .before .before .loop-test .taken)) (c .before .before .before .loop .inv .1))))
+put-set-line-requires c κs =
+    let at-loop-test = c .before .before in
+    let at-loop = at-loop-test .before in
+    (simp length-take (omega arith), room-first _ _ (room-left (same-rest (sets-next _ _ _ _ (at-loop-test .loop-test .taken)) (at-loop .loop .inv .1))))
 
 add-n : tie.Need-add-n Inv-loop μ-loop
 add-n c = search needs
@@ -51,7 +54,11 @@ loop-less : tie.Need-loop-less Inv-loop μ-loop
 loop-less c = search needs
 
 loop-again : tie.Need-loop-again Inv-loop μ-loop
-loop-again c = (omega arith, onward (same-rest (sets-next _ _ _ _ (c .before .before .before .before .before .loop-test .taken)) (c .before .before .before .before .before .before .loop .inv .1)) (c .before .before .put-set-line .ensures))
+loop-again c =
+    let at-put-set-line = c .before .before in
+    let at-loop-test = at-put-set-line .before .before .before in
+    let at-loop = at-loop-test .before in
+    (omega arith, onward (same-rest (sets-next _ _ _ _ (at-loop-test .loop-test .taken)) (at-loop .loop .inv .1)) (at-put-set-line .put-set-line .ensures))
 
 same-length : tie.Need-same-length Inv-loop μ-loop
 same-length c = kept (c .before .loop .inv .1)
