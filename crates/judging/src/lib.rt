@@ -104,8 +104,8 @@ fn claim_line(store: &[u8], rows: u8) -> usize
     requires { ⌜ rows ≡ countRows rowLimit (now store) ⌝ }
     ensures { λ n. ⌜ (n ≡ claimLine (decode (now (store .entry)))) × (n ≤ 4 * rowLimit) ⌝ }
 {
-    let flows = writing::count_sets(&store[Store::FLOWS..]);
-    let comms = writing::count_sets(&store[Store::COMMS..]);
+    let flows = write_sets::count_sets(&store[Store::FLOWS..]);
+    let comms = write_sets::count_sets(&store[Store::COMMS..]);
     let head = rows as usize + 2;
     let behind = head + flows;
     behind + comms

@@ -1,2 +1,3 @@
--- The rows of a store, by their numbers.
+-- The rows of a store, by their numbers, and the kinds of forms.
 pub mod Rows
+pub mod Kinds

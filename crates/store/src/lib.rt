@@ -5,9 +5,12 @@ ghost use mathlib.Core.List.{_++_};
 ghost use lib.ListN.{length, drop, replicate};
 ghost use Rattle.calls.specs.Layout.{storeSize};
 
+pub mod kinds; // kinds.rt: the kinds of the forms
 pub mod rows; // rows.rt: a row of the store, read and written
 pub mod scope; // scope.rt: uses out of scope, down the tree of rows
 
+pub use kinds::arity;
+pub use kinds::form_place;
 pub use rows::form_of;
 pub use rows::put_row;
 pub use rows::row_at;

@@ -1,3 +1,5 @@
 -- Laws that the proofs of the functions share.
 pub mod Reading
 pub mod Writing
+pub mod Progress
+pub mod Head

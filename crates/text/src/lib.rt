@@ -5,7 +5,7 @@ ghost use mathlib.Core.Path.{_≡_};
 ghost use Prim.Native.Nat.{_<_};
 ghost use Rattle.format.specs.Text.{byteAt, digitAt, readNumber, expect, readArgument, place, digits, argument};
 ghost use Rattle.text.specs.Reads.{numberRead, nextRead, noZero};
-ghost use Rattle.text.specs.Write.{Room, Wrote};
+ghost use Rattle.text.specs.Write.{Room, Wrote, headText};
 
 // The byte at a position, and 0 past the end: no byte of the format is 0.
 pub fn byte_at(s: &[u8], at: usize) -> u8
@@ -155,4 +155,14 @@ pub fn put_word(out: &mut [u8], at: usize, word: &[u8]) -> usize
         i += 1;
     }
     next
+}
+
+// Writes how a line begins: a word, a number and the space behind it.
+pub fn put_head(out: &mut [u8], at: usize, word: &[u8], n: u16) -> usize
+    requires { ⌜ Room at (headText (now word) n) ⌝ }
+    ensures { λ r. ⌜ Wrote (now (out .entry)) at (headText (now (word .entry)) n) r (now (out .exit)) ⌝ }
+{
+    let p = put_word(out, at, word);
+    let q = put_argument(out, p, n);
+    put_byte(out, q, 32)
 }

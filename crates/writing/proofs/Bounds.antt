@@ -23,8 +23,10 @@ use Rattle.calls.specs.Layout.{memberLimit, rowsSize, setsSize, storeSize, memb
 use Rattle.calls.proofs.Codec.Sparse.{either}
 use Rattle.store.proofs.Laws.{program-length}
 use Rattle.text.specs.Write.{Room}
-use Rattle.writing.specs.Texts.{entryText, storedDocument}
-use Rattle.writing.proofs.Parts.{claimsText, with-entry, document-parts, partsText, stored-parts}
+use Rattle.write_sets.specs.Texts.{entryText}
+use Rattle.write_sets.proofs.Parts.{with-entry}
+use Rattle.writing.specs.Texts.{storedDocument}
+use Rattle.writing.proofs.Parts.{claimsText, document-parts, partsText, stored-parts}
 
 -- ---- numbers
 

@@ -1,5 +1,5 @@
--- The texts in parts: what a loop writes in one turn, and what is left behind it.
-use Prim.Native.Nat.{ℕ, suc, _+_, _-_, _*_, _<_, _≤_}
+-- The texts in parts: the lines of claims, and a document's text.
+use Prim.Native.Nat.{ℕ, suc, _+_, _-_, _<_, _≤_}
 use mathlib.Core.List.{List, [], _∷_, _++_, map, append-assoc, append-nil}
 use mathlib.Core.Path.{_≡_, refl, sym}
 use native.Mathlib.Numerals.{add-one}
@@ -8,66 +8,16 @@ use lib.ListN.{length, getD, drop, take, length-drop, drop-of-length-le}
 use lib.Seq.{drop-cons, drop-drop, take-all}
 use lib.Dec.{eqb}
 use borrow.Author.Tests.{ne-eqb}
-use Rattle.program.specs.declared.Row.{Row}
 use Rattle.program.specs.Each.{collect}
 use Rattle.format.specs.Limits.{rowLimit}
-use Rattle.format.specs.Text.{Bytes, ascii, argument, arguments}
-use Rattle.format.specs.Document.{Entry, Claim, Document, Line, row, flow, comm, claim}
+use Rattle.format.specs.Text.{Bytes, ascii}
+use Rattle.format.specs.Document.{Entry, Claim, Document, Line, flow, comm, claim}
 use Rattle.format.specs.Print.{lineText, rowLines, linesOf, header, documentText}
-use Rattle.calls.specs.Layout.{counting, memberLimit, rowsSize, setsSize, membersFrom, withEntry, decodeSets, wordOf, decodeRows, decodeClaims, decode}
+use Rattle.calls.specs.Layout.{rowsSize, setsSize, decodeSets, wordOf, decodeRows, decodeClaims, decode}
 use Rattle.calls.proofs.Codec.Sparse.{either}
-use Rattle.store.specs.Rows.{storeRow, storeProgram}
-use Rattle.text.specs.Write.{Room, Wrote}
-use Rattle.text.proofs.Writing.{then, room-first, room-then}
-use Rattle.writing.specs.Texts.{headText, entryText, storedDocument}
-
--- ---- how a line begins, and what stands behind it
-
-module _ (word : Bytes) (n : ℕ) (rest : Bytes) where
-  headed : headText word n ++ rest ≡ word ++ (argument n ++ (ascii " " ++ rest))
-  unfolding headText
-  headed = simp append-assoc
-
-  pub room-head : {i : ℕ} → Room i (word ++ (argument n ++ (ascii " " ++ rest))) → Room i (headText word n)
-  room-head r = room-first (headText word n) rest (rw headed r)
-
-  pub room-behind : {l m : Bytes} {i j : ℕ} → Wrote l i (headText word n) j m → Room i (word ++ (argument n ++ (ascii " " ++ rest))) → Room j rest
-  room-behind w r = room-then rest w (rw headed r)
-
-  pub then-behind : {l m o : Bytes} {i j k : ℕ} → Wrote l i (headText word n) j m → Wrote m j rest k o
-      → Wrote l i (word ++ (argument n ++ (ascii " " ++ rest))) k o
-  then-behind w v = rw headed at (then w v)
-
--- ---- numbers
-
-pub arguments-next : (ns : List ℕ) (i : ℕ) → i < length ns → arguments (drop i ns) ≡ argument (getD ns i 0) ++ arguments (drop (i + 1) ns)
-unfolding arguments
-arguments-next ns i h = rw (add-one, drop-cons ns i 0 h)
-
-pub arguments-end : (ns : List ℕ) (i : ℕ) → length ns ≤ i → arguments (drop i ns) ≡ []
-unfolding arguments
-arguments-end ns i h = rw (drop-of-length-le ns h)
-
--- ---- the lines of rows r, r + 1 and so on, below n
-
-pub rows-all : (n : ℕ) (s : Bytes) → collect lineText (rowLines 0 (storeProgram n s)) ≡ collect lineText (rowLines 0 (counting (n - 0) 0 (storeRow s)))
-unfolding storeProgram
-rows-all n s =
-    let q : n - 0 ≡ n = omega arith in
-    rw q
-
-pub rows-next : (n r : ℕ) (f : ℕ → Row) → r < n
-    → collect lineText (rowLines r (counting (n - r) r f)) ≡ lineText (row r (f r)) ++ collect lineText (rowLines (r + 1) (counting (n - (r + 1)) (r + 1) f))
-unfolding counting rowLines collect
-rows-next n r f h =
-    let q : n - r ≡ suc (n - (r + 1)) = omega arith in
-    rw (q, add-one)
-
-pub rows-end : (n r : ℕ) (f : ℕ → Row) → n ≤ r → collect lineText (rowLines r (counting (n - r) r f)) ≡ []
-unfolding counting rowLines collect
-rows-end n r f h =
-    let q : n - r ≡ 0 = omega arith in
-    rw q
+use Rattle.store.specs.Rows.{storeProgram}
+use Rattle.write_sets.specs.Texts.{entryText}
+use Rattle.writing.specs.Texts.{storedDocument}
 
 -- ---- lists, one after the other
 
@@ -80,32 +30,6 @@ module _ {A : Type 0} (f : A → Bytes) where
 map-append : {A B : Type 0} (g : A → B) (xs ys : List A) → map g (xs ++ ys) ≡ map g xs ++ map g ys
 map-append g [] ys = refl
 map-append g (x ∷ xs) ys = rw (map-append g xs ys)
-
--- ---- the lines of sets n, n + 1 and so on, below k
-
-pub with-entry : (f : Entry → Bytes) (n : ℕ) (ms : List ℕ) (es : List Entry) → collect f (withEntry n ms es) ≡ collect f (withEntry n ms []) ++ collect f es
-unfolding withEntry collect
-with-entry f n [] es = refl
-with-entry f n (m ∷ ms) es = rw append-nil
-
-module _ (f : Entry → Bytes) (k n : ℕ) (s : Bytes) where
-  -- the set's bytes as the code cuts them out
-  pub sets-next : n < k → collect f (decodeSets (k - n) n (drop (n * memberLimit) s))
-      ≡ collect f (withEntry n (membersFrom 0 (take ((n * memberLimit + memberLimit) - n * memberLimit) (drop (n * memberLimit) s))) [])
-      ++ collect f (decodeSets (k - (n + 1)) (n + 1) (drop ((n + 1) * memberLimit) s))
-  unfolding decodeSets
-  sets-next h =
-      let q : k - n ≡ suc (k - (n + 1)) = omega arith in
-      let size : (n * memberLimit + memberLimit) - n * memberLimit ≡ memberLimit = omega arith in
-      let past : (n + 1) * memberLimit ≡ n * memberLimit + memberLimit = omega arith in
-      rw (q, size, past, add-one n, ← (drop-drop memberLimit (n * memberLimit) s))
-      (with-entry f n (membersFrom 0 (take memberLimit (drop (n * memberLimit) s))) (decodeSets (k - suc n) (suc n) (drop memberLimit (drop (n * memberLimit) s))))
-
-  pub sets-end : k ≤ n → collect f (decodeSets (k - n) n (drop (n * memberLimit) s)) ≡ []
-  unfolding decodeSets collect
-  sets-end h =
-      let q : k - n ≡ 0 = omega arith in
-      rw q
 
 -- ---- the lines of claims c, c + 1 and so on
 

@@ -1,2 +1,2 @@
--- The texts that the functions of this crate write, beside those of the format.
+-- The document that the functions of this crate write.
 pub mod Texts

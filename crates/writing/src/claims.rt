@@ -1,5 +1,4 @@
 // Claim lines, written at a position.
-use crate::put_head;
 ghost use mathlib.Core.List.{[], _∷_, map};
 ghost use Prim.Native.Nat.{_≤_};
 ghost use lib.ListN.{length};
@@ -32,7 +31,7 @@ fn put_claim(out: &mut [u8], at: usize, c: u16, code: u8) -> usize
     if code == 0 {
         return at;
     }
-    let p = put_head(out, at, b"[claim", c);
+    let p = text::put_head(out, at, b"[claim", c);
     let q = put_claim_word(out, p, code);
     text::put_word(out, q, b"]\n")
 }

@@ -1,31 +1,17 @@
 // The text of the document in a store, written into a slice at a position. What does not fit the slice is not written, and counts all the same.
 use claims::put_claims;
-use rows::put_rows;
-use sets::put_sets;
 use store::Store;
+use write_rows::put_rows;
+use write_sets::put_sets;
 ghost use mathlib.Core.Path.{_≡_};
 ghost use Prim.Native.Nat.{_≤_};
 ghost use lib.ListN.{length, take};
 ghost use Rattle.format.specs.Print.{documentText};
 ghost use Rattle.calls.specs.Layout.{storeSize};
 ghost use Rattle.text.specs.Write.{Room, Wrote};
-ghost use Rattle.writing.specs.Texts.{headText, storedDocument};
+ghost use Rattle.writing.specs.Texts.{storedDocument};
 
 mod claims; // claims.rt: claim lines
-mod rows; // rows.rt: forms, rows and their lines
-mod sets; // sets.rt: sets and their lines
-
-pub use sets::count_sets;
-
-// Writes how a line begins: a word, a number and the space behind it.
-fn put_head(out: &mut [u8], at: usize, word: &[u8], n: u16) -> usize
-    requires { ⌜ Room at (headText (now word) n) ⌝ }
-    ensures { λ r. ⌜ Wrote (now (out .entry)) at (headText (now (word .entry)) n) r (now (out .exit)) ⌝ }
-{
-    let p = text::put_word(out, at, word);
-    let q = text::put_argument(out, p, n);
-    text::put_byte(out, q, 32)
-}
 
 // Writes the document of the bytes of a store with so many rows.
 fn put_store(out: &mut [u8], store: &[u8], rows: u8) -> usize

@@ -23,7 +23,10 @@ put-word-requires c κs = search needs
 
 put-rows-requires : tie.Need-put-rows-requires
 unfolding header ascii
-put-rows-requires c κs = room-first _ _ (room-then _ (c .before .before .before .put-word .ensures) (room (c .before .before .before .before .before .before .before .before)))
+put-rows-requires c κs =
+    let at-put-word = c .before .before .before in
+    let start = at-put-word .before .before .before .before .before in
+    (omega (arith, start .pre), room-first _ _ (room-then _ (at-put-word .put-word .ensures) (room start)))
 
 slice-aggregate-put-sets : tie.Need-slice-aggregate-put-sets
 slice-aggregate-put-sets c = search needs
@@ -39,7 +42,14 @@ part-put-sets-end c = search needs
 
 put-sets-requires : tie.Need-put-sets-requires
 unfolding header ascii
-put-sets-requires c κs = (omega (arith, behind-length rowsSize (c .before .before .before .before .before .before .before .before .before .before .before .before .before .before .args .store .now), c .before .before .before .before .before .before .before .before .before .before .before .before .before .before .pre), room-first _ _ (room-then _ (c .before .before .before .before .before .put-rows .ensures) (room-then _ (c .before .before .before .before .before .before .before .before .before .put-word .ensures) (room (c .before .before .before .before .before .before .before .before .before .before .before .before .before .before)))))
+put-sets-requires c κs =
+    let at-put-rows = c .before .before .before .before .before in
+    let at-put-word = at-put-rows .before .before .before .before in
+    let start = at-put-word .before .before .before .before .before in (
+      omega (arith, behind-length rowsSize (start .args .store .now), start .pre),
+      room-first _ _
+          (room-then _ (at-put-rows .put-rows .ensures) (room-then _ (at-put-word .put-word .ensures) (room start))),
+    )
 
 slice-aggregate-put-sets-2 : tie.Need-slice-aggregate-put-sets-2
 slice-aggregate-put-sets-2 c = search needs
@@ -55,7 +65,15 @@ part-put-sets-end-2 c = search needs
 
 put-sets-requires-2 : tie.Need-put-sets-requires-2
 unfolding header ascii
-put-sets-requires-2 c κs = (omega (arith, behind-length (rowsSize + setsSize) (c .before .before .before .before .before .before .before .before .before .before .before .before .before .before .before .before .before .before .before .before .args .store .now), c .before .before .before .before .before .before .before .before .before .before .before .before .before .before .before .before .before .before .before .before .pre), room-first _ _ (room-then _ (c .before .before .before .before .before .put-sets .ensures) (room-then _ (c .before .before .before .before .before .before .before .before .before .before .before .put-rows .ensures) (room-then _ (c .before .before .before .before .before .before .before .before .before .before .before .before .before .before .before .put-word .ensures) (room (c .before .before .before .before .before .before .before .before .before .before .before .before .before .before .before .before .before .before .before .before))))))
+put-sets-requires-2 c κs =
+    let at-put-sets = c .before .before .before .before .before in
+    let at-put-rows = at-put-sets .before .before .before .before .before .before in
+    let at-put-word = at-put-rows .before .before .before .before in
+    let start = at-put-word .before .before .before .before .before in (
+      omega (arith, behind-length (rowsSize + setsSize) (start .args .store .now), start .pre),
+      room-first _ _
+          (room-then _ (at-put-sets .put-sets .ensures) (room-then _ (at-put-rows .put-rows .ensures) (room-then _ (at-put-word .put-word .ensures) (room start)))),
+    )
 
 sub-put-claims : tie.Need-sub-put-claims
 sub-put-claims c = search needs
@@ -68,14 +86,32 @@ part-put-claims-end c = search needs
 
 put-claims-requires : tie.Need-put-claims-requires
 unfolding header ascii
-put-claims-requires c κs = (omega (arith, behind-length (rowsSize + setsSize + setsSize) (c .before .before .before .before .before .before .before .before .before .before .before .before .before .before .before .before .before .before .before .before .before .before .before .before .before .args .store .now), c .before .before .before .before .before .before .before .before .before .before .before .before .before .before .before .before .before .before .before .before .before .before .before .before .before .pre), room-then _ (c .before .before .before .before .put-sets2 .ensures) (room-then _ (c .before .before .before .before .before .before .before .before .before .before .put-sets .ensures) (room-then _ (c .before .before .before .before .before .before .before .before .before .before .before .before .before .before .before .before .put-rows .ensures) (room-then _ (c .before .before .before .before .before .before .before .before .before .before .before .before .before .before .before .before .before .before .before .before .put-word .ensures) (room (c .before .before .before .before .before .before .before .before .before .before .before .before .before .before .before .before .before .before .before .before .before .before .before .before .before))))))
+put-claims-requires c κs =
+    let at-put-sets2 = c .before .before .before .before in
+    let at-put-sets = at-put-sets2 .before .before .before .before .before .before in
+    let at-put-rows = at-put-sets .before .before .before .before .before .before in
+    let at-put-word = at-put-rows .before .before .before .before in
+    let start = at-put-word .before .before .before .before .before in (
+      omega (arith, behind-length (rowsSize + setsSize + setsSize) (start .args .store .now), start .pre),
+      room-then _ (at-put-sets2 .put-sets2 .ensures)
+          (room-then _ (at-put-sets .put-sets .ensures) (room-then _ (at-put-rows .put-rows .ensures) (room-then _ (at-put-word .put-word .ensures) (room start)))),
+    )
 
 same-length : tie.Need-same-length
 same-length c = search needs
 
 returns : tie.Need-returns
 unfolding header ascii
-returns c = rw (stored-parts (c .before .before .before .before .before .before .before .before .before .before .before .before .before .before .before .before .before .before .before .before .before .before .before .before .before .before .before .before .args .rows) (c .before .before .before .before .before .before .before .before .before .before .before .before .before .before .before .before .before .before .before .before .before .before .before .before .before .before .before .before .args .store .now)) (then (c .before .before .before .before .before .before .before .before .before .before .before .before .before .before .before .before .before .before .before .before .before .before .before .put-word .ensures) (then (c .before .before .before .before .before .before .before .before .before .before .before .before .before .before .before .before .before .before .before .put-rows .ensures) (then (c .before .before .before .before .before .before .before .before .before .before .before .before .before .put-sets .ensures) (then (c .before .before .before .before .before .before .before .put-sets2 .ensures) (c .before .before .put-claims .ensures)))))
+returns c =
+    let at-put-claims = c .before .before in
+    let at-put-sets2 = at-put-claims .before .before .before .before .before in
+    let at-put-sets = at-put-sets2 .before .before .before .before .before .before in
+    let at-put-rows = at-put-sets .before .before .before .before .before .before in
+    let at-put-word = at-put-rows .before .before .before .before in
+    let start = at-put-word .before .before .before .before .before in
+    rw (stored-parts (start .args .rows) (start .args .store .now))
+    (then (at-put-word .put-word .ensures) (then (at-put-rows .put-rows .ensures)
+    (then (at-put-sets .put-sets .ensures) (then (at-put-sets2 .put-sets2 .ensures) (at-put-claims .put-claims .ensures)))))
 
 pub put-store-spec : {M : Type 1} → statement M
 put-store-spec =

@@ -5,7 +5,8 @@ use Rattle.format.specs.Print.{lineText}
 use Rattle.format.specs.Text.{ascii}
 use Rattle.calls.specs.Layout.{decodeClaims}
 use Rattle.text.proofs.Writing.{nothing, then, room-first, room-then}
-use Rattle.writing.proofs.Parts.{one-claim, room-head, room-behind, then-behind}
+use Rattle.text.proofs.Head.{room-head, room-behind, then-behind}
+use Rattle.writing.proofs.Parts.{one-claim}
 use Rattle.writing.proofs.claims.put_claim.Statement.{statement}
 use Rattle.writing.proofs.claims.put_claim.Tie as tie
 
@@ -22,21 +23,35 @@ put-head-requires c κs = room-head _ _ _ (rw (one-claim _ _ (c .before .before 
 
 put-claim-word-requires : tie.Need-put-claim-word-requires
 unfolding lineText ascii
-put-claim-word-requires c κs = room-first _ _ (room-behind _ _ _ (c .before .before .before .put-head .ensures) (rw (one-claim _ _ (c .before .before .before .before .before .before .if1 .left)) at (c .before .before .before .before .before .before .before .before .pre)))
+put-claim-word-requires c κs =
+    let at-put-head = c .before .before .before in
+    let at-if1 = at-put-head .before .before .before in
+    let start = at-if1 .before .before in
+    room-first _ _ (room-behind _ _ _ (at-put-head .put-head .ensures) (rw (one-claim _ _ (at-if1 .if1 .left)) at (start .pre)))
 
 slice-aggregate-put-word : tie.Need-slice-aggregate-put-word
 slice-aggregate-put-word c = search needs
 
 put-word-requires : tie.Need-put-word-requires
 unfolding lineText ascii
-put-word-requires c κs = room-then _ (c .before .before .before .before .put-claim-word .ensures) (room-behind _ _ _ (c .before .before .before .before .before .before .before .before .put-head .ensures) (rw (one-claim _ _ (c .before .before .before .before .before .before .before .before .before .before .before .if1 .left)) at (c .before .before .before .before .before .before .before .before .before .before .before .before .before .pre)))
+put-word-requires c κs =
+    let at-put-claim-word = c .before .before .before .before in
+    let at-put-head = at-put-claim-word .before .before .before .before in
+    let at-if1 = at-put-head .before .before .before in
+    let start = at-if1 .before .before in
+    room-then _ (at-put-claim-word .put-claim-word .ensures) (room-behind _ _ _ (at-put-head .put-head .ensures) (rw (one-claim _ _ (at-if1 .if1 .left)) at (start .pre)))
 
 same-length : tie.Need-same-length
 same-length c = search needs
 
 returns-2 : tie.Need-returns-2
 unfolding lineText ascii
-returns-2 c = rw (one-claim _ _ (c .before .before .before .before .before .before .before .before .before .before .before .before .before .before .if1 .left)) (then-behind _ _ _ (c .before .before .before .before .before .before .before .before .before .before .before .put-head .ensures) (then (c .before .before .before .before .before .before .before .put-claim-word .ensures) (c .before .before .put-word .ensures)))
+returns-2 c =
+    let at-put-word = c .before .before in
+    let at-put-claim-word = at-put-word .before .before .before .before .before in
+    let at-put-head = at-put-claim-word .before .before .before .before in
+    let at-if1 = at-put-head .before .before .before in
+    rw (one-claim _ _ (at-if1 .if1 .left)) (then-behind _ _ _ (at-put-head .put-head .ensures) (then (at-put-claim-word .put-claim-word .ensures) (at-put-word .put-word .ensures)))
 
 pub put-claim-spec : {M : Type 1} → statement M
 put-claim-spec =

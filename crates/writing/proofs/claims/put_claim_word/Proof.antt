@@ -40,7 +40,11 @@ slice-aggregate-put-word-5 c = search needs
 
 put-word-requires-5 : tie.Need-put-word-requires-5
 unfolding ascii wordText wordOf
-put-word-requires-5 c κs = simp (ne-eqb _ _ (c .before .before .match .rest .0 .0 .0 .1), ne-eqb _ _ (c .before .before .match .rest .0 .0 .1), ne-eqb _ _ (c .before .before .match .rest .0 .1), ne-eqb _ _ (c .before .before .match .rest .1)) at (c .before .before .before .before .pre)
+put-word-requires-5 c κs =
+    let at-match = c .before .before in
+    let start = at-match .before .before in
+    simp (ne-eqb _ _ (at-match .match .rest .0 .0 .0 .1), ne-eqb _ _ (at-match .match .rest .0 .0 .1), ne-eqb _ _ (at-match .match .rest .0 .1), ne-eqb _ _ (at-match .match .rest .1)) at
+    (start .pre)
 
 same-length : tie.Need-same-length
 same-length c = search needs
@@ -75,7 +79,11 @@ same-length-5 c = search needs
 
 returns-5 : tie.Need-returns-5
 unfolding ascii wordText wordOf
-returns-5 c = simp (ne-eqb _ _ (c .before .before .before .before .before .match .rest .0 .0 .0 .1), ne-eqb _ _ (c .before .before .before .before .before .match .rest .0 .0 .1), ne-eqb _ _ (c .before .before .before .before .before .match .rest .0 .1), ne-eqb _ _ (c .before .before .before .before .before .match .rest .1)) (c .before .before .put-word5 .ensures)
+returns-5 c =
+    let at-put-word5 = c .before .before in
+    let at-match = at-put-word5 .before .before .before in
+    simp (ne-eqb _ _ (at-match .match .rest .0 .0 .0 .1), ne-eqb _ _ (at-match .match .rest .0 .0 .1), ne-eqb _ _ (at-match .match .rest .0 .1), ne-eqb _ _ (at-match .match .rest .1))
+    (at-put-word5 .put-word5 .ensures)
 
 pub put-claim-word-spec : {M : Type 1} → statement M
 put-claim-word-spec =

@@ -6,7 +6,7 @@ use borrow.Author.Needs.{needs}
 use Rattle.calls.specs.Layout.{decodeClaims}
 use Rattle.text.proofs.Writing.{room-first}
 use Rattle.writing.proofs.Parts.{claimsText, claims-next, claims-end}
-use Rattle.writing.proofs.Progress.{Progress, begin, same-rest, room-left, onward, finished, kept}
+use Rattle.text.proofs.Progress.{Progress, begin, same-rest, room-left, onward, finished, kept}
 use Rattle.writing.proofs.claims.put_claims.Statement.{statement}
 use Rattle.writing.proofs.claims.put_claims.Tie as tie
 
@@ -36,7 +36,11 @@ loop-less : tie.Need-loop-less Inv-loop μ-loop
 loop-less c = search needs
 
 loop-again : tie.Need-loop-again Inv-loop μ-loop
-loop-again c = (omega arith, onward (same-rest (claims-next _ _ (c .before .before .before .before .before .loop-test .taken)) (c .before .before .before .before .before .before .loop .inv .1)) (c .before .before .put-claim .ensures))
+loop-again c =
+    let at-put-claim = c .before .before in
+    let at-loop-test = at-put-claim .before .before .before in
+    let at-loop = at-loop-test .before in
+    (omega arith, onward (same-rest (claims-next _ _ (at-loop-test .loop-test .taken)) (at-loop .loop .inv .1)) (at-put-claim .put-claim .ensures))
 
 same-length : tie.Need-same-length Inv-loop μ-loop
 same-length c = kept (c .before .loop .inv .1)

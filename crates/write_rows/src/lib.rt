@@ -1,0 +1,127 @@
+// Rows and their lines, written into a slice at a position. What does not fit the slice is not written, and counts all the same.
+// A row is read as it stands in the store: its kind, its name, its rest and five numbers.
+use store::Store;
+use store::arity;
+use store::form_place;
+ghost use mathlib.Core.Path.{_≡_};
+ghost use Prim.Native.Nat.{_≤_, _-_};
+ghost use lib.ListN.{length, take, drop};
+ghost use Rattle.program.specs.Each.{collect};
+ghost use Rattle.format.specs.Text.{arguments};
+ghost use Rattle.format.specs.Forms.{formOf};
+ghost use Rattle.format.specs.Print.{formText, rowText, lineText, rowLines};
+ghost use Rattle.format.specs.Document.{row};
+ghost use Rattle.calls.specs.Layout.{rowSize, storeSize, rowOf};
+ghost use Rattle.store.specs.Rows.{storeProgram};
+ghost use Rattle.text.specs.Write.{Room, Wrote};
+ghost use Rattle.write_rows.specs.Texts.{kindWord, resultText};
+
+// Writes numbers, each with a space before it.
+fn put_arguments(out: &mut [u8], at: usize, numbers: &[u8]) -> usize
+    requires { ⌜ Room at (arguments (now numbers)) ⌝ }
+    ensures { λ r. ⌜ Wrote (now (out .entry)) at (arguments (now (numbers .entry))) r (now (out .exit)) ⌝ }
+{
+    let mut next = at;
+    let mut i = 0;
+    while i < numbers.len() {
+        let n = numbers[i] as u16;
+        next = text::put_argument(out, next, n);
+        i += 1;
+    }
+    next
+}
+
+// Writes a part of a text.
+fn put_part(out: &mut [u8], at: usize, text: &[u8], from: usize, to: usize) -> usize
+    requires { ⌜ (from ≤ to) × (to ≤ length (now text)) ⌝ }
+    requires { ⌜ Room at (take (to - from) (drop from (now text))) ⌝ }
+    ensures { λ r. ⌜ Wrote (now (out .entry)) at (take (to - from) (drop from (now (text .entry)))) r (now (out .exit)) ⌝ }
+{
+    text::put_word(out, at, &text[from..to])
+}
+
+// Writes the word of a kind, with the bracket before it.
+fn put_kind(out: &mut [u8], at: usize, kind: u8) -> usize
+    requires { ⌜ Room at (kindWord kind) ⌝ }
+    ensures { λ r. ⌜ Wrote (now (out .entry)) at (kindWord kind) r (now (out .exit)) ⌝ }
+{
+    let starts = [0, 5, 10, 15, 20, 25, 30, 36, 40, 46, 51, 57, 64, 69, 75];
+    let p = form_place(kind);
+    let from = starts[p];
+    let to = starts[p + 1];
+    put_part(
+        out,
+        at,
+        b"[unit[chan[send[recv[pair[left[right[fun[spawn[sync[first[second[case[apply",
+        from,
+        to,
+    )
+}
+
+// Writes the form of a kind and five numbers, of which it holds the first.
+fn put_form(out: &mut [u8], at: usize, kind: u8, numbers: &[u8]) -> usize
+    requires { ⌜ length (now numbers) ≡ 5 ⌝ }
+    requires { ⌜ Room at (formText (formOf kind (now numbers))) ⌝ }
+    ensures { λ r. ⌜ Wrote (now (out .entry)) at (formText (formOf kind (now (numbers .entry)))) r (now (out .exit)) ⌝ }
+{
+    let count = arity(kind);
+    let p = put_kind(out, at, kind);
+    let q = put_arguments(out, p, &numbers[..count]);
+    text::put_byte(out, q, 93)
+}
+
+// Writes a result row.
+fn put_result(out: &mut [u8], at: usize, name: u8) -> usize
+    requires { ⌜ Room at (resultText name) ⌝ }
+    ensures { λ r. ⌜ Wrote (now (out .entry)) at (resultText name) r (now (out .exit)) ⌝ }
+{
+    let p = text::put_word(out, at, b"[result");
+    let q = text::put_argument(out, p, name as u16);
+    text::put_byte(out, q, 93)
+}
+
+// Writes a row.
+fn put_row(out: &mut [u8], at: usize, row: &[u8]) -> usize
+    requires { ⌜ length (now row) ≡ rowSize ⌝ }
+    requires { ⌜ Room at (rowText (rowOf (now row))) ⌝ }
+    ensures { λ r. ⌜ Wrote (now (out .entry)) at (rowText (rowOf (now (row .entry)))) r (now (out .exit)) ⌝ }
+{
+    let kind = row[0];
+    let name = row[1];
+    let rest = row[2];
+    if kind == 1 {
+        return put_result(out, at, name);
+    }
+    let p = text::put_head(out, at, b"[bind", name as u16);
+    let q = put_form(out, p, kind, &row[3..]);
+    let s = text::put_argument(out, q, rest as u16);
+    text::put_byte(out, s, 93)
+}
+
+// Writes the line of row r.
+fn put_row_line(out: &mut [u8], at: usize, r: u8, x: &[u8]) -> usize
+    requires { ⌜ length (now x) ≡ rowSize ⌝ }
+    requires { ⌜ Room at (lineText (row r (rowOf (now x)))) ⌝ }
+    ensures { λ y. ⌜ Wrote (now (out .entry)) at (lineText (row r (rowOf (now (x .entry))))) y (now (out .exit)) ⌝ }
+{
+    let p = text::put_head(out, at, b"[row", r as u16);
+    let q = put_row(out, p, x);
+    text::put_word(out, q, b"]\n")
+}
+
+// Writes the lines of the first rows of a store.
+pub fn put_rows(out: &mut [u8], at: usize, store: &[u8], rows: u8) -> usize
+    requires { ⌜ storeSize ≤ length (now store) ⌝ }
+    requires { ⌜ Room at (collect lineText (rowLines 0 (storeProgram rows (now store)))) ⌝ }
+    ensures { λ y. ⌜ Wrote (now (out .entry)) at (collect lineText (rowLines 0 (storeProgram rows (now (store .entry))))) y (now (out .exit)) ⌝ }
+{
+    let mut next = at;
+    let mut r = 0;
+    while r < rows {
+        let from = r as usize * Store::ROW_SIZE;
+        let to = from + Store::ROW_SIZE;
+        next = put_row_line(out, next, r, &store[from..to]);
+        r += 1;
+    }
+    next
+}

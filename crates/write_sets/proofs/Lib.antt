@@ -1,0 +1,4 @@
+-- Laws that the proofs of the functions share.
+pub mod Parts
+pub mod Members
+pub mod Counting

@@ -1,0 +1,38 @@
+-- The lines of sets in parts: what the loop writes in one turn, and what is left behind it.
+use Prim.Native.Nat.{ℕ, suc, _+_, _-_, _*_, _<_, _≤_}
+use mathlib.Core.List.{List, [], _∷_, _++_, append-nil}
+use mathlib.Core.Path.{_≡_, refl}
+use native.Mathlib.Numerals.{add-one}
+use native.Mathlib.Omega.{arith}
+use lib.ListN.{drop, take}
+use lib.Seq.{drop-drop}
+use Rattle.program.specs.Each.{collect}
+use Rattle.format.specs.Text.{Bytes}
+use Rattle.format.specs.Document.{Entry}
+use Rattle.calls.specs.Layout.{memberLimit, membersFrom, withEntry, decodeSets}
+
+-- ---- the lines of sets n, n + 1 and so on, below k
+
+pub with-entry : (f : Entry → Bytes) (n : ℕ) (ms : List ℕ) (es : List Entry) → collect f (withEntry n ms es) ≡ collect f (withEntry n ms []) ++ collect f es
+unfolding withEntry collect
+with-entry f n [] es = refl
+with-entry f n (m ∷ ms) es = rw append-nil
+
+module _ (f : Entry → Bytes) (k n : ℕ) (s : Bytes) where
+  -- the set's bytes as the code cuts them out
+  pub sets-next : n < k → collect f (decodeSets (k - n) n (drop (n * memberLimit) s))
+      ≡ collect f (withEntry n (membersFrom 0 (take ((n * memberLimit + memberLimit) - n * memberLimit) (drop (n * memberLimit) s))) [])
+      ++ collect f (decodeSets (k - (n + 1)) (n + 1) (drop ((n + 1) * memberLimit) s))
+  unfolding decodeSets
+  sets-next h =
+      let q : k - n ≡ suc (k - (n + 1)) = omega arith in
+      let size : (n * memberLimit + memberLimit) - n * memberLimit ≡ memberLimit = omega arith in
+      let past : (n + 1) * memberLimit ≡ n * memberLimit + memberLimit = omega arith in
+      rw (q, size, past, add-one n, ← (drop-drop memberLimit (n * memberLimit) s))
+      (with-entry f n (membersFrom 0 (take memberLimit (drop (n * memberLimit) s))) (decodeSets (k - suc n) (suc n) (drop memberLimit (drop (n * memberLimit) s))))
+
+  pub sets-end : k ≤ n → collect f (decodeSets (k - n) n (drop (n * memberLimit) s)) ≡ []
+  unfolding decodeSets collect
+  sets-end h =
+      let q : k - n ≡ 0 = omega arith in
+      rw q
