@@ -1,4 +1,4 @@
--- What judging a store asks for, and what its grid tells where the store is accepted.
+-- What judging a store asks for, and what its grid shows where the store is accepted.
 use native.Mathlib.Omega.{arith}
 use mathlib.Core.Path.{sym}
 use Rattle.judging.proofs.Documents.{few-rows}
@@ -56,7 +56,7 @@ slice-aggregate-print-channels : tie.Need-slice-aggregate-print-channels
 slice-aggregate-print-channels c = search needs
 
 print-channels-requires : tie.Need-print-channels-requires
-print-channels-requires c κs = ((omega (arith, fixed-size _ _ (rw (c .before .before .before .before .before .before .before .before .before .before .before .before .before .before .rows .given .1) at (c .before .before .before .before .before .before .before .before .before .before .before .before .before .before .before .before .«open» .ensures))), few-rows _ _ (counted _ _ (rw (c .before .before .before .before .before .before .before .before .before .before .before .before .before .before .rows .given .1) at (c .before .before .before .before .before .before .before .before .before .before .before .before .before .before .before .before .«open» .ensures))), search needs), c .before .before .before .before .before .before .before .before .before .before .judge-store .ensures .grid-tells _ (c .before .before .before .before .before .before .before .claims .given .1))
+print-channels-requires c κs = ((omega (arith, fixed-size _ _ (rw (c .before .before .before .before .before .before .before .before .before .before .before .before .before .before .rows .given .1) at (c .before .before .before .before .before .before .before .before .before .before .before .before .before .before .before .before .«open» .ensures))), few-rows _ _ (counted _ _ (rw (c .before .before .before .before .before .before .before .before .before .before .before .before .before .before .rows .given .1) at (c .before .before .before .before .before .before .before .before .before .before .before .before .before .before .before .before .«open» .ensures))), search needs), c .before .before .before .before .before .before .before .before .before .before .judge-store .ensures .grid-shows _ (c .before .before .before .before .before .before .before .claims .given .1))
 
 returns : tie.Need-returns
 returns c = search needs
