@@ -96,8 +96,12 @@ judge store = judgeAnswered (andThen (opened store) judgeDocument)
 unfoldable pub verdictOf : ℕ → Document → Result (List Bool)
 verdictOf c d = elim (chanRow (d .rows) c) [ true ↦ verdictDocument d c | false ↦ refused (refusal NotAChannel 0) ]
 
+-- no word holds where the call is refused
+abbrev pub noVerdict : Refusal → VerdictAnswer
+noVerdict r = record { status = VerdictStatus.Refused r; words = false ∷ false ∷ false ∷ false ∷ [] }
+
 unfoldable pub verdictGiven : Result (List Bool) → VerdictAnswer
-verdictGiven (refused r) = record { status = VerdictStatus.Refused r; words = false ∷ false ∷ false ∷ false ∷ [] }
+verdictGiven (refused r) = noVerdict r
 verdictGiven (accepted bs) = record { status = VerdictStatus.Given; words = bs }
 
 unfoldable pub verdict : Bytes → ℕ → VerdictAnswer

@@ -1,8 +1,6 @@
 -- Judge and verdict of a store: what opening it answers, then those of its document.
 use Prim.Native.Nat.{ℕ, _≤_}
 use native.Mathlib.Omega.{arith}
-use mathlib.Core.Bool.{false}
-use mathlib.Core.List.{[], _∷_}
 use mathlib.Core.Path.{_≡_, refl, sym, _∙_}
 use lib.ListN.{length, take}
 use lib.Seq.{length-take-le}
@@ -11,11 +9,10 @@ use Rattle.format.specs.Limits.{rowLimit}
 use Rattle.format.specs.Text.{Bytes}
 use Rattle.calls.specs.declared.JudgeAnswer.{JudgeAnswer}
 use Rattle.calls.specs.declared.VerdictAnswer.{VerdictAnswer}
-use Rattle.calls.specs.declared.VerdictStatus.{VerdictStatus}
 use Rattle.calls.specs.Layout.{storeSize, decode}
 use Rattle.calls.specs.Canonical.{countRows}
 use Rattle.calls.specs.Judging.{judgeDocument}
-use Rattle.calls.specs.Calls.{opened, andThen, judgeAnswered, verdictGiven, verdictOf, judge, verdict}
+use Rattle.calls.specs.Calls.{opened, andThen, judgeAnswered, noVerdict, verdictGiven, verdictOf, judge, verdict}
 use Rattle.entry.specs.declared.Opened.{Opened}
 use Rattle.entry.specs.Opening.{OpenedIs}
 use Rattle.entry.proofs.Opening.{refused-is, opens-is, opens-long}
@@ -29,7 +26,7 @@ module _ (store : Bytes) where
     unfolding judge andThen judgeAnswered
     judge-closed = rw (refused-is fixed (opened store) r h)
 
-    pub verdict-closed : (c : ℕ) → record { status = VerdictStatus.Refused r; words = false ∷ false ∷ false ∷ false ∷ [] } ≡ verdict store c
+    pub verdict-closed : (c : ℕ) → noVerdict r ≡ verdict store c
     unfolding verdict andThen verdictGiven
     verdict-closed c = rw (refused-is fixed (opened store) r h, verdictGiven) refl
 

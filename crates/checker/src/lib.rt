@@ -2,7 +2,6 @@
 use calls::JudgeAnswer;
 use calls::LoadAnswer;
 use calls::VerdictAnswer;
-use calls::VerdictStatus;
 use calls::WriteAnswer;
 use entry::Opened;
 use format::Reason;
@@ -39,10 +38,7 @@ pub fn verdict(store: &[u8], channel: usize) -> VerdictAnswer
     ensures { λ a. ⌜ a ≡ verdict (now (store .entry)) channel ⌝ }
 {
     match entry::open(store) {
-        Opened::Refused(refusal) => VerdictAnswer {
-            status: VerdictStatus::Refused(refusal),
-            words: [false, false, false, false],
-        },
+        Opened::Refused(refusal) => judging::no_verdict(refusal),
         Opened::Rows(rows) => judging::verdict_rows(&store[..Store::SIZE], rows, channel),
     }
 }

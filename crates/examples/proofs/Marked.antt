@@ -91,9 +91,9 @@ unfolding Calls.load Calls.loaded Calls.counts Calls.refilled Calls.judge Calls.
     Judging.flowTable Judging.commTable Judging.wordHolds Judging.reaches Judging.failingRow Judging.failingClaim Judging.after10 Judging.judgeClaims Judging.judgeDocument
     Document.tableOf Document.membersAt Document.member
     Flow.keepsAt Flow.keepsForm Flow.sendRule Flow.recvRule Flow.lies Flow.forEach Flow.forEachChan
-    Walk.someCalled Walk.toRest Walk.toChild Walk.toCalled Walk.toCaller Walk.edge Walk.sendPlace Walk.receivePlace
+    Walk.enters Walk.someCalled Walk.toRest Walk.toChild Walk.toCalled Walk.toCaller Walk.edge Walk.sendPlace Walk.receivePlace
     Closure.cell Closure.table Closure.join Closure.through Closure.closure Closure.grid Closure.closed
-    Verdict.reach Verdict.reached Verdict.leads Verdict.inARow Verdict.rivals Verdict.verdict
+    Verdict.reach Verdict.reached Verdict.leads Verdict.inARow Verdict.rivals Verdict.ends Verdict.facts Verdict.says Verdict.verdict
     Test.least Test.all Test.any Each.every Each.collect Each.elem Maybe._>>=_ Maybe._<|>_ Maybe.has Maybe.when
     Program.rowAt Program.bindAt Program.bindOf Program.formAt Program.chanAt Program.sendAt Program.recvAt Program.pairAt Program.leftAt Program.rightAt Program.funAt
     Program.syncAt Program.forkAt Program.pointers Program.binders Program.valueRow Program.chanRow Program.resultName Program.resultRow Program.resultFrom Program.nameOf

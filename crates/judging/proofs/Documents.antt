@@ -27,7 +27,7 @@ use Rattle.calls.specs.declared.VerdictStatus.{VerdictStatus}
 use Rattle.calls.specs.Layout.{rowsSize, setsSize, storeSize, decode, decodeSets, decodeClaims}
 use Rattle.calls.specs.Canonical.{countRows}
 use Rattle.calls.specs.Judging.{flowTable, commTable, wordHolds, reaches, failingRow, failingClaim, after10, judgeClaims, judgeDocument, verdictDocument, verdictWords}
-use Rattle.calls.specs.Calls.{judgeAnswered, verdictGiven, verdictOf}
+use Rattle.calls.specs.Calls.{judgeAnswered, noVerdict, verdictGiven, verdictOf}
 use Rattle.calls.proofs.Canonical.{rows-decoded}
 use Rattle.calls.proofs.Canonical.Rows.{count-rows-le}
 use Rattle.store.specs.Rows.{storeRow, storeProgram}
@@ -37,8 +37,8 @@ use Rattle.tables.specs.Tables.{storeFlow, storeComm}
 use Rattle.tables.proofs.Tables.{flow-table, comm-table}
 use Rattle.flow.specs.Rules.{rowOr}
 use Rattle.verdicts.specs.Words.{wordIn}
-use Rattle.judging.specs.Judged.{claimIn, claimsJudged}
-use Rattle.judging.proofs.Claiming.{answerOf, judged-is}
+use Rattle.claims.specs.Claims.{claimIn, claimsJudged}
+use Rattle.claims.proofs.Claiming.{answerOf, judged-is}
 
 -- ---- the store's document
 
@@ -163,12 +163,12 @@ module _ (n : ℕ) (s : Bytes) (rows : n ≡ countRows rowLimit s) where
   chan-is c q = ap (λ (p : Program). chanRow p c) rows-are ∙ q
 
   pub no-channel : (c : ℕ) → chanRow (storeProgram n s) c ≡ false
-      → record { status = VerdictStatus.Refused (refusal NotAChannel 0); words = false ∷ false ∷ false ∷ false ∷ [] } ≡ verdictGiven (verdictOf c (decode s))
+      → noVerdict (refusal NotAChannel 0) ≡ verdictGiven (verdictOf c (decode s))
   unfolding verdictOf verdictGiven
   no-channel c q = rw (chan-is c q, verdictGiven) refl
 
   module _ (c : ℕ) (q : chanRow (storeProgram n s) c ≡ true) {m : ℕ} (e : m ≡ rowOr (least n (λ r. not (keeps r)))) where
-    pub verdict-refused : m < n → record { status = VerdictStatus.Refused (refusal FlowRuleFails (rowLine m)); words = false ∷ false ∷ false ∷ false ∷ [] } ≡ verdictGiven (verdictOf c (decode s))
+    pub verdict-refused : m < n → noVerdict (refusal FlowRuleFails (rowLine m)) ≡ verdictGiven (verdictOf c (decode s))
     unfolding verdictOf verdictGiven verdictDocument
     verdict-refused l = rw (chan-is c q, flow-refused e l, verdictGiven) refl
 

@@ -1,3 +1,2 @@
--- Laws about the definitions of specs/.
-pub mod Claiming
+-- Laws about judge and verdict of the document in a store.
 pub mod Documents

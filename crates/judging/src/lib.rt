@@ -4,26 +4,20 @@ use calls::VerdictAnswer;
 use calls::VerdictStatus;
 use format::Reason;
 use format::Refusal;
-use reach::GRID;
+use grids::GRID;
 use store::Store;
 ghost use mathlib.Core.Path.{_≡_};
-ghost use mathlib.Core.Bool.{false};
-ghost use mathlib.Core.List.{[], _∷_};
-ghost use Prim.Native.Nat.{_+_, _*_, _≤_};
-ghost use lib.ListN.{length, take, drop};
-ghost use Rattle.program.specs.Verdict.{reach};
+ghost use Prim.Native.Nat.{_*_, _≤_};
+ghost use lib.ListN.{length};
 ghost use Rattle.format.specs.Limits.{rowLimit};
 ghost use Rattle.format.specs.Refusals.{refusal};
 ghost use Rattle.format.specs.Structure.{rowLine, claimLine};
-ghost use Rattle.calls.specs.Layout.{rowsSize, setsSize, storeSize, decode, wordOf, decodeClaims};
+ghost use Rattle.calls.specs.Layout.{storeSize, decode};
 ghost use Rattle.calls.specs.Canonical.{countRows};
 ghost use Rattle.calls.specs.Judging.{judgeDocument};
-ghost use Rattle.calls.specs.Calls.{judgeAnswered, verdictGiven, verdictOf};
-ghost use Rattle.store.specs.Rows.{storeProgram};
-ghost use Rattle.tables.specs.Tables.{storeFlow};
-ghost use Rattle.reach.specs.Grid.{gridSize, Tells};
-ghost use Rattle.verdicts.specs.Words.{wordIn};
-ghost use Rattle.judging.specs.Judged.{claimIn, claimsJudged, Judged};
+ghost use Rattle.calls.specs.Calls.{judgeAnswered, noVerdict, verdictGiven, verdictOf};
+ghost use Rattle.grids.specs.Grid.{gridSize};
+ghost use Rattle.judging.specs.Judged.{Judged};
 
 // 10, at the line of a row.
 fn flow_refusal(row: u8) -> Refusal
@@ -35,9 +29,9 @@ fn flow_refusal(row: u8) -> Refusal
     }
 }
 
-// A verdict that is not given.
-fn no_verdict(refusal: Refusal) -> VerdictAnswer
-    ensures { λ a. ⌜ a ≡ record { status = VerdictStatus.Refused refusal; words = false ∷ false ∷ false ∷ false ∷ [] } ⌝ }
+// A verdict that is not given: no word holds.
+pub fn no_verdict(refusal: Refusal) -> VerdictAnswer
+    ensures { λ a. ⌜ a ≡ noVerdict refusal ⌝ }
 {
     VerdictAnswer {
         status: VerdictStatus::Refused(refusal),
@@ -47,55 +41,12 @@ fn no_verdict(refusal: Refusal) -> VerdictAnswer
 
 // 24: the number is no chan row.
 fn not_a_channel() -> VerdictAnswer
-    ensures { λ a. ⌜ a ≡ record { status = VerdictStatus.Refused (refusal Reason.NotAChannel 0); words = false ∷ false ∷ false ∷ false ∷ [] } ⌝ }
+    ensures { λ a. ⌜ a ≡ noVerdict (refusal Reason.NotAChannel 0) ⌝ }
 {
     no_verdict(Refusal {
         reason: Reason::NotAChannel,
         line: 0,
     })
-}
-
-// Whether the claim of a word's code holds of channel row c.
-fn claim_holds(store: &[u8], rows: u8, grid: &[u8], c: u8, code: u8) -> bool
-    requires { ⌜ (storeSize ≤ length (now store)) × (rows ≤ rowLimit) × (gridSize ≤ length (now grid)) ⌝ }
-    requires { ⌜ Tells rows (reach (storeProgram rows (now store)) (storeFlow (now store))) (now grid) ⌝ }
-    ensures { λ b. ⌜ (let bytes = now (store .entry) in b ≡ wordIn (storeProgram rows bytes) (storeFlow bytes) c (wordOf code)) ⌝ }
-{
-    let words = verdicts::words(store, rows, grid, c);
-    match code {
-        1 => words[0],
-        2 => words[1],
-        3 => words[2],
-        4 => words[3],
-        _ => true,
-    }
-}
-
-// The claims in turn, the first of which has a line: 11 at the line of the first that fails, or their count.
-fn judge_claims(store: &[u8], rows: u8, grid: &[u8], line: usize) -> JudgeAnswer
-    requires { ⌜ (storeSize ≤ length (now store)) × (rows ≤ rowLimit) × (gridSize ≤ length (now grid)) × (line ≤ 4 * rowLimit) ⌝ }
-    requires { ⌜ Tells rows (reach (storeProgram rows (now store)) (storeFlow (now store))) (now grid) ⌝ }
-    ensures { λ a. ⌜ (let bytes = now (store .entry) in a ≡ claimsJudged (claimIn (storeProgram rows bytes) (storeFlow bytes)) line 0 (decodeClaims 0 (take rowLimit (drop (rowsSize + setsSize + setsSize) bytes)))) ⌝ }
-{
-    let mut held = 0;
-    let mut c = 0;
-    while c < Store::ROWS {
-        let code = text::byte_at(store, Store::CLAIMS + c);
-        let row = c as u8;
-        c += 1;
-        if code == 0 {
-            continue;
-        }
-        if claim_holds(store, rows, grid, row, code) {
-            held += 1;
-            continue;
-        }
-        return JudgeAnswer::Refused(Refusal {
-            reason: Reason::ClaimFails,
-            line: line + held,
-        });
-    }
-    JudgeAnswer::Accepted(held)
 }
 
 // The line of the first claim in the text that write would give.
@@ -124,7 +75,7 @@ pub fn judge_store(store: &[u8], rows: u8, grid: &mut [u8]) -> JudgeAnswer
     }
     reach::fill_reach(store, rows, grid);
     let line = claim_line(store, rows);
-    judge_claims(store, rows, grid, line)
+    claims::judge_claims(store, rows, grid, line)
 }
 
 // Judges the store, with a grid of its own.

@@ -20,10 +20,11 @@ use Rattle.program.specs.Each.{Member, here, there, every}
 use Rattle.program.specs.Snoc.{ε, _▷_, Snoc-discrete, Ordered, begins?, continues?}
 use Rattle.program.specs.Program.{Program, rowAt, bindOf, bindAt, formAt, chanAt, sendAt, recvAt, pairAt, leftAt, rightAt, funAt, syncAt, forkAt, resultFrom, resultRow, nameOf, resultName}
 use Rattle.program.specs.Flow.{Abstract, u, row, Table, forEach, forEachChan, lies, sendRule, recvRule, keepsForm, keepsAt}
-use Rattle.program.specs.Walk.{someCalled, toRest, toChild, toCalled, toCaller, edge, sendPlace, receivePlace}
+use Rattle.program.specs.Walk.{enters, someCalled, toRest, toChild, toCalled, toCaller, edge, sendPlace, receivePlace}
 use Rattle.program.specs.Closure.{cell, table, join, through, closure, grid, closed}
-use Rattle.program.specs.Verdict.{reach, reached, leads, inARow, rivals, verdict}
-use Rattle.program.specs.Run.{Path, next, spawn, call, sameLabel, Instance, made, State, Pool, lookup, closureOf, channelOf, closureAt, proceed, enter, start, formMoves, resultMoves, moves, event, sendsOn, message, offer, receivesOn, stateOf, leaf, leafState, lengthen, Step, own, meet, added, step, after, startPool, run}
+use Rattle.program.specs.Verdict.{reach, says, reached, leads, inARow, rivals, ends, facts, verdict}
+use Rattle.program.specs.Run.{Path, next, spawn, call, sameLabel, Instance, made, State, Pool, lookup, closureOf, channelOf, closureAt, proceed, enter, start, formMoves, resultMoves, moves, event, sendsOn, message, offer, receivesOn}
+use Rattle.program.specs.Run.{stateOf, leaf, leafState, lengthen, Step, own, meet, added, step, after, startPool, run}
 use Rattle.program.specs.Topology.{Fits}
 use Rattle.program.specs.History.{AtSend, AtReceive, HistoryFits}
 use Rattle.program.proofs.Maybe.{bind-elim}
@@ -57,7 +58,8 @@ comm = [] ∷ (u ∷ []) ∷ []
 
 -- the rows whose flow rule fails
 failing : Sample → List ℕ
-unfolding sets comm keepsAt keepsForm sendRule recvRule lies forEach forEachChan all every rowAt bindAt bindOf when has chanAt sendAt recvAt _>>=_ formAt pairAt leftAt rightAt funAt resultName resultRow resultFrom nameOf
+unfolding sets comm keepsAt keepsForm sendRule recvRule lies forEach forEachChan all every
+    rowAt bindAt bindOf when has chanAt sendAt recvAt _>>=_ formAt pairAt leftAt rightAt funAt resultName resultRow resultFrom nameOf
 failing s = go (length (s .rows)) []
   where
     go : ℕ → List ℕ → List ℕ
@@ -66,7 +68,8 @@ failing s = go (length (s .rows)) []
 
 -- the verdict on channel row 1
 verdicts : Sample → List Bool
-unfolding sets verdict rivals inARow leads reached reach closed grid closure through join table cell edge toRest toChild toCalled toCaller someCalled any has rowAt bindAt bindOf _>>=_ formAt funAt forkAt syncAt sendAt recvAt resultRow resultFrom sendPlace receivePlace
+unfolding sets verdict says facts ends rivals inARow leads reached reach closed grid closure through join table cell edge toRest toChild toCalled toCaller someCalled enters
+    any has rowAt bindAt bindOf _>>=_ formAt funAt forkAt syncAt sendAt recvAt resultRow resultFrom sendPlace receivePlace
 verdicts s =
     let p = s .rows in
     let flow = sets (s .flow) in
@@ -75,7 +78,8 @@ verdicts s =
 
 -- the rows of the pool that a list of steps leaves
 ran : Sample → List Step → List ℕ
-unfolding run after step added startPool lengthen leafState leaf stateOf moves formMoves resultMoves proceed enter start event sendsOn message offer receivesOn lookup closureOf channelOf closureAt given provided _>>=_ _<|>_ test continues? begins? every either? rowAt bindAt bindOf syncAt sendAt recvAt formAt pairAt leftAt rightAt funAt ℕ-discrete
+unfolding run after step added startPool lengthen leafState leaf stateOf moves formMoves resultMoves proceed enter start event sendsOn message offer receivesOn
+    lookup closureOf channelOf closureAt given provided _>>=_ _<|>_ test continues? begins? every either? rowAt bindAt bindOf syncAt sendAt recvAt formAt pairAt leftAt rightAt funAt ℕ-discrete
 ran s ss = map (λ t. t .state .row) (run (s .rows) ss)
 
 -- example A: a child receives what its parent sends
@@ -114,7 +118,8 @@ loop = record {
 branches : Sample
 unfolding bind
 branches = record {
-  rows = bind 0 Form.Unit 1 ∷ bind 1 Chan 2 ∷ bind 2 (Send 1 0) 3 ∷ bind 3 (Left 0) 4 ∷ bind 4 (Case 3 5 5 6 7) 9 ∷ bind 7 (Sync 2) 6 ∷ Row.Result 7 ∷ bind 8 (Sync 2) 8 ∷ Row.Result 8 ∷ Row.Result 4 ∷ [];
+  rows = bind 0 Form.Unit 1 ∷ bind 1 Chan 2 ∷ bind 2 (Send 1 0) 3 ∷ bind 3 (Left 0) 4 ∷
+      bind 4 (Case 3 5 5 6 7) 9 ∷ bind 7 (Sync 2) 6 ∷ Row.Result 7 ∷ bind 8 (Sync 2) 8 ∷ Row.Result 8 ∷ Row.Result 4 ∷ [];
   flow = (u ∷ []) ∷ (row 1 ∷ []) ∷ (row 2 ∷ []) ∷ (row 3 ∷ []) ∷ (u ∷ []) ∷ (u ∷ []) ∷ [] ∷ (u ∷ []) ∷ (u ∷ []) ∷ [];
 }
 

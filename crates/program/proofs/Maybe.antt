@@ -54,6 +54,9 @@ module _ {A : Type 0} where
   unfolding has
   has-intro f e t = rw e t
 
+  pub has-mono : (o : Option A) (f g : A → Bool) → ((a : A) → So (f a) → So (g a)) → So (has o f) → So (has o g)
+  has-mono o f g m h = let (a, e, t) = has-elim f o h in has-intro g e (m a t)
+
 pub found-bind : {A B : Type 0} {P : A → Type 0} {Q : B → Type 0} {o : Option A} {f : A → Option B}
     → Found P o → ((a : A) → P a → Found Q (f a)) → Found Q (o >>= f)
 unfolding _>>=_

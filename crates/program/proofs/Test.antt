@@ -78,6 +78,13 @@ any-elim zero f t = absurd (false≢true t)
 any-elim (suc n) f t =
     ⊎-elim (λ s. (n, omega arith, s)) (λ s. let (i, l, h) = any-elim n f s in (i, omega arith, h)) (or-cases (f n) (any n f) t)
 
+-- tests that pass more often
+pub or-mono : (a b c d : Bool) → (So a → So c) → (So b → So d) → So (a || b) → So (c || d)
+or-mono a b c d f g h = ⊎-elim (λ s. or-left d (f s)) (λ s. or-right c (g s)) (or-cases a b h)
+
+pub and-mono : (a b c d : Bool) → (So a → So c) → (So b → So d) → So (a && b) → So (c && d)
+and-mono a b c d f g h = and-intro (f (and-left a b h)) (g (and-right a b h))
+
 module _ {P : Type 0} where
   pub test-elim : (d : Dec P) → So (test d) → P
   unfolding test

@@ -1,8 +1,11 @@
--- "Walks and claims", as tests: the verdict on two sets of places, from which rows are reached from which. That it says of all pairs of walks what `Walk.Holds` says is a theorem (proofs/Decides/Verdicts).
+-- "Walks and claims", as tests: the verdict on two sets of places, from which rows are reached from which.
+-- That it says of all pairs of walks what `Walk.Holds` says is a theorem (proofs/Decides/Verdicts).
 use Prim.Native.Nat.{ℕ}
 use mathlib.Core.Bool.{Bool, true, not, _&&_, _||_}
 use lib.ListN.{length}
 use lib.Dec.{eqb}
+use Rattle.program.specs.declared.Ends.{Ends}
+use Rattle.program.specs.declared.Facts.{Facts}
 use Rattle.program.specs.declared.Word.{Word}
 use Rattle.program.specs.declared.Word.the-variants.{OneShot, OneToOne, FanOut, FanIn, Many}
 use Rattle.program.specs.Test.{any}
@@ -15,6 +18,14 @@ use Rattle.program.specs.Closure.{closed}
 -- row s is reached from row r by one or more row steps
 unfoldable pub reach : Program → Table → ℕ → ℕ → Bool
 reach p flow = closed (length p) (edge p flow)
+
+-- what a word says, by what is found of walks that come to send places and to receive places
+unfoldable pub says : Word → Facts → Bool
+says OneShot f = not (f .sends .twice) && not (f .sends .rivals)
+says OneToOne f = not (f .sends .rivals) && not (f .receives .rivals)
+says FanOut f = not (f .sends .rivals)
+says FanIn f = not (f .receives .rivals)
+says Many f = true
 
 -- what follows takes that relation as it comes
 module _ (p : Program) (reach : ℕ → ℕ → Bool) where
@@ -36,9 +47,13 @@ module _ (p : Program) (reach : ℕ → ℕ → Bool) where
     unfoldable pub rivals : (ℕ → Bool) → Bool
     rivals places = any (length p) λ q. comes q && has (forkAt p q) λ (t, rest). leads places t && leads places rest
 
+    -- the two, of one set of places
+    unfoldable pub ends : (ℕ → Bool) → Ends
+    ends places = record { twice = inARow places; rivals = rivals places }
+
+    -- of the send places and of the receive places
+    unfoldable pub facts : (ℕ → Bool) → (ℕ → Bool) → Facts
+    facts sends receives = record { sends = ends sends; receives = ends receives }
+
     unfoldable pub verdict : Word → (ℕ → Bool) → (ℕ → Bool) → Bool
-    verdict OneShot sends receives = not (inARow sends) && not (rivals sends)
-    verdict OneToOne sends receives = not (rivals sends) && not (rivals receives)
-    verdict FanOut sends receives = not (rivals sends)
-    verdict FanIn sends receives = not (rivals receives)
-    verdict Many sends receives = true
+    verdict word sends receives = says word (facts sends receives)

@@ -1,7 +1,7 @@
 -- "Walks and claims": row steps, walks, pairs that can share a run, send and receive places, and what a claim says of them.
 use Prim.Native.Nat.{ℕ}
 use mathlib.Core.Bool.{Bool, true, false, _&&_, _||_, So}
-use mathlib.Core.Option.{some}
+use mathlib.Core.Option.{Option, some}
 use mathlib.Core.Path.{_≡_}
 use mathlib.Core.Logic.{_⊎_}
 use lib.ListN.{length}
@@ -11,7 +11,7 @@ use Rattle.program.specs.declared.Form.{Form}
 use Rattle.program.specs.Test.{any}
 use Rattle.program.specs.Maybe.{has}
 use Rattle.program.specs.Snoc.{Snoc, ε, _▷_, Begins}
-use Rattle.program.specs.Program.{Program, bindAt, formAt, caseOf, applyOf, byKind, funAt, forkAt, syncAt, sendAt, recvAt, resultRow}
+use Rattle.program.specs.Program.{Program, bindAt, formAt, caseOf, applyOf, byKind, leftAt, rightAt, funAt, forkAt, syncAt, sendAt, recvAt, resultRow}
 use Rattle.program.specs.Flow.{Table, row}
 use Rattle.program.specs.Topology.{Fits}
 
@@ -27,12 +27,24 @@ lastRow (w ▷ r) = r
 abbrev pub plain : Form → Bool
 plain = byKind true true (λ c m. true) (λ c. true) (λ a b. true) (λ a. true) (λ a. true) (λ f x t. true) (λ t. true) (λ e. true) (λ s x t y w. false) (λ f a. false)
 
+-- which sides of a case count; a side is told by the case's S and by the rows of that side, `leftAt p` or `rightAt p`
+abbrev pub Sides : Type 0
+Sides = ℕ → (ℕ → Option ℕ) → Bool
+
+-- both, whatever V(S) holds
+abbrev pub always : Sides
+always s side = true
+
 module _ (p : Program) (flow : Table) where
-  -- the test holds of a row that row q may call: a branch of its case, or the body of a fun in its F's set
-  unfoldable pub someCalled : ℕ → (ℕ → Bool) → Bool
-  someCalled q f =
+  -- the sides by which a case is entered: both
+  unfoldable pub enters : Sides
+  enters s side = always s side
+
+  -- the test holds of a row that row q may call: a branch of its case whose side counts, or the body of a fun in its F's set
+  unfoldable pub someCalled : Sides → ℕ → (ℕ → Bool) → Bool
+  someCalled counts q f =
       has (formAt p q) λ k.
-      has (caseOf k) (λ (s, x, t, y, w). f t || f w) ||
+      has (caseOf k) (λ (s, x, t, y, w). (counts s (leftAt p) && f t) || (counts s (rightAt p) && f w)) ||
       has (applyOf k) (λ (g, a). any (length p) λ s. flow g (row s) && has (funAt p s) (λ (h, x, t). f t))
 
   -- "a bind other than case and apply steps to its rest"
@@ -45,11 +57,11 @@ module _ (p : Program) (flow : Table) where
 
   -- "A case steps to both branches", "An apply steps to the body of each fun row in V(F)"
   unfoldable pub toCalled : ℕ → ℕ → Bool
-  toCalled r s = someCalled r (eqb s)
+  toCalled r s = someCalled enters r (eqb s)
 
-  -- "and their result rows to the case's rest", "and that body's result row to the apply's rest"
+  -- "and their result rows to the case's rest", whichever side is entered; "and that body's result row to the apply's rest"
   unfoldable pub toCaller : ℕ → ℕ → Bool
-  toCaller r s = any (length p) λ q. has (bindAt p q) (λ b. eqb s (b .rest)) && someCalled q (λ t. eqb r (resultRow p t))
+  toCaller r s = any (length p) λ q. has (bindAt p q) (λ b. eqb s (b .rest)) && someCalled always q (λ t. eqb r (resultRow p t))
 
   -- row r steps to row s
   unfoldable pub edge : ℕ → ℕ → Bool

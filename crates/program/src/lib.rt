@@ -73,3 +73,16 @@ pub enum Word {
     FanIn,
     Many,
 }
+
+// What is found of the walks that come to some places: one that comes to two of them, one after the other, and two that
+// part at a spawn row and come to places.
+pub struct Ends {
+    pub twice: bool,
+    pub rivals: bool,
+}
+
+// What is found at the two ends of a channel: at its send places and at its receive places. Every word is told from this.
+pub struct Facts {
+    pub sends: Ends,
+    pub receives: Ends,
+}

@@ -1,6 +1,4 @@
 -- Laws about the definitions of specs/, and what the proofs of several functions share.
 pub mod Rows
-pub mod Marks
+pub mod Giving
 pub mod Steps
-pub mod Passes
-pub mod Closing

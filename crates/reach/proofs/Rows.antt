@@ -1,10 +1,8 @@
 -- The rows of a program in a store: a result row is found by following rests.
-use Prim.Native.Nat.{ℕ, zero, suc, _+_, _-_, _≤_, _<_}
+use Prim.Native.Nat.{ℕ, zero, suc, _-_, _≤_, _<_}
 use native.Mathlib.Omega.{arith}
-use native.Mathlib.Decide.{ℕ-discrete}
-use mathlib.Core.Path.{_≡_, refl, _∙_}
-use lib.ListN.{length, getD, set}
-use lib.Seq.{getD-set-same, getD-set-other}
+use mathlib.Core.Path.{_≡_, refl}
+use lib.ListN.{length}
 use Rattle.program.specs.declared.Row.{Row}
 use Rattle.program.specs.declared.Bind.{Bind}
 use Rattle.program.specs.Program.{Program, rowAt, resultFrom, resultRow}
@@ -34,12 +32,3 @@ module _ (p : Program) where
   result-next (suc k) r {b} l e =
       let q : suc k - 1 ≡ k = omega arith in
       rw (e, resultFrom, q)
-
--- one more element of a list that is filled from the left
-pub filled-more : (f : ℕ → ℕ) (k : ℕ) (xs : Bytes) → k < length xs → ((i : ℕ) → i < k → getD xs i 0 ≡ f i)
-    → (i : ℕ) → i < k + 1 → getD (set xs k (f k)) i 0 ≡ f i
-filled-more f k xs l h i lt =
-    elim (ℕ-discrete i k) [
-      | yes e ↦ rw e (getD-set-same xs k _ 0 l)
-      | no e ↦ getD-set-other xs k i _ 0 e ∙ h i (omega arith)
-    ]

@@ -1,7 +1,7 @@
 -- The row steps that the rows give are the edges.
 use Prim.Native.Nat.{ℕ}
 use mathlib.Core.Bool.{Bool, true, false, _&&_, _||_, So, or-false, false≢true}
-use mathlib.Core.Option.{some}
+use mathlib.Core.Option.{Option, none, some}
 use mathlib.Core.Path.{_≡_, refl, sym, ap, _∙_, fun-ext}
 use mathlib.Core.Logic.{⊎-elim}
 use lib.ListN.{length}
@@ -13,9 +13,10 @@ use Rattle.program.specs.declared.Form.{Form}
 use Rattle.program.specs.declared.Form.the-variants.{Chan, Send, Recv, Pair, Left, Right, Fun, Spawn, Sync, First, Second, Case, Apply}
 use Rattle.program.specs.Test.{any}
 use Rattle.program.specs.Maybe.{_>>=_, has}
-use Rattle.program.specs.Program.{Program, rowAt, bindOf, bindAt, formAt, caseOf, applyOf, spawnOf, funOf, funAt, forkAt, resultRow}
+use Rattle.program.specs.Program.{Program, rowAt, bindOf, bindAt, formAt, caseOf, applyOf, leftAt, rightAt, spawnOf, funOf, funAt, forkAt, resultRow}
 use Rattle.program.specs.Flow.{Table, row}
-use Rattle.program.specs.Walk.{plain, someCalled, toRest, toChild, toCalled, toCaller, edge}
+use Rattle.program.specs.Verdict.{reach}
+use Rattle.program.specs.Walk.{plain, Sides, always, enters, someCalled, toRest, toChild, toCalled, toCaller, edge}
 use Rattle.program.proofs.Test.{and-left, and-right, and-intro, or-left, or-right, or-cases, any-intro, any-elim}
 use Rattle.program.proofs.Maybe.{has-elim, has-intro, bind-elim}
 use Rattle.program.proofs.Sound.Shape.{bind-bound, row-of}
@@ -23,14 +24,33 @@ use Rattle.program.proofs.Sound.Edges.{form-at, Calls, edge-rest, edge-child, e
 use Rattle.format.specs.Text.{Bytes}
 use Rattle.store.specs.Rows.{storeProgram}
 use Rattle.store.proofs.Laws.{program-length}
-use Rattle.reach.specs.Grid.{Told}
-use Rattle.reach.specs.Edges.{kindOf, kindOfRow, kindAt, step, callSteps, kindCalled, bodySteps, anyBody, kindSteps, rowSteps, anyRow}
-use Rattle.reach.proofs.Marks.{told-as}
+use Rattle.grids.specs.Grid.{among, step, Fills, Closes}
+use Rattle.grids.proofs.Keeping.{kept-then}
+use Rattle.reach.specs.Edges.{kindOf, kindOfRow, kindAt, callSteps, fromBoth, kindCalled, bodySteps, anyBody, entering, kindSteps, rowSteps, anyRow}
+use Rattle.grids.proofs.Adding.{among-as, fills-as}
 
 same-test : (a b : Bool) → (So a → So b) → (So b → So a) → a ≡ b
 same-test true b f g = sym (f refl)
 same-test false true f g = g refl
 same-test false false f g = refl
+
+-- either of two tests, of a number below n, of what is there, and beside a third
+any-or : (n : ℕ) (f g : ℕ → Bool) → any n (λ i. f i || g i) ≡ (any n f || any n g)
+any-or n f g = same-test (any n λ i. f i || g i) (any n f || any n g) apart together
+  where
+    apart : So (any n λ i. f i || g i) → So (any n f || any n g)
+    apart h = let (i, l, t) = any-elim n _ h in ⊎-elim (λ a. or-left _ (any-intro f i l a)) (λ b. or-right (any n f) (any-intro g i l b)) (or-cases (f i) (g i) t)
+
+    together : So (any n f || any n g) → So (any n λ i. f i || g i)
+    together h =
+        ⊎-elim (λ a. let (i, l, t) = any-elim n f a in any-intro _ i l (or-left (g i) t)) (λ b. let (i, l, t) = any-elim n g b in any-intro _ i l (or-right (f i) t))
+        (or-cases (any n f) (any n g) h)
+
+has-or : {A : Type 0} (a : Bool) (o : Option A) (f g : A → Bool) → (a && has o (λ x. f x || g x)) ≡ ((a && has o f) || (a && has o g))
+unfolding has
+has-or true none f g = refl
+has-or true (some x) f g = refl
+has-or false o f g = refl
 
 module _ (p : Program) (flow : Table) where
   -- ---- the steps of a kind are those of its row
@@ -62,20 +82,21 @@ module _ (p : Program) (flow : Table) where
   unfolding kindAt funAt formAt bindAt
   body-called q rest r s k = row-called q rest r s (rowAt p k)
 
-  -- what a form calls
-  formCalled : Form → (ℕ → Bool) → Bool
-  formCalled k f =
-      has (caseOf k) (λ (s, x, t, y, w). f t || f w) ||
+  -- what a form calls, by the sides that count
+  formCalled : Sides → Form → (ℕ → Bool) → Bool
+  formCalled counts k f =
+      has (caseOf k) (λ (s, x, t, y, w). (counts s (leftAt p) && f t) || (counts s (rightAt p) && f w)) ||
       has (applyOf k) (λ (g, a). any (length p) λ s. flow g (row s) && has (funAt p s) (λ (h, x, t). f t))
 
-  -- a step to the rest, a step to a child, and calls
+  -- a step to the rest, a step to a child, steps into what is called, and from its result row
   formSteps : ℕ → ℕ → Form → ℕ → ℕ → Bool
   formSteps q rest f r s =
       (plain f && step q rest r s) ||
-      (has (spawnOf f) (λ t. step q t r s) || formCalled f (λ t. callSteps q rest t (resultRow p t) r s))
+      (has (spawnOf f) (λ t. step q t r s) ||
+      (formCalled (enters p flow) f (λ t. step q t r s) || formCalled always f (λ t. step (resultRow p t) rest r s)))
 
   form-steps : (q rest r s : ℕ) (f : Form) → kindSteps p flow q (kindOf rest f) r s ≡ formSteps q rest f r s
-  unfolding kindSteps formSteps formCalled has anyBody bodySteps
+  unfolding kindSteps formSteps formCalled has anyBody bodySteps callSteps entering fromBoth
   form-steps q rest r s Form.Unit = sym (or-false (step q rest r s))
   form-steps q rest r s Chan = sym (or-false (step q rest r s))
   form-steps q rest r s (Send c m) = sym (or-false (step q rest r s))
@@ -88,8 +109,10 @@ module _ (p : Program) (flow : Table) where
   form-steps q rest r s (Sync e) = sym (or-false (step q rest r s))
   form-steps q rest r s (First a) = sym (or-false (step q rest r s))
   form-steps q rest r s (Second a) = sym (or-false (step q rest r s))
-  form-steps q rest r s (Case k x t y w) = sym (or-false _)
-  form-steps q rest r s (Apply f a) = ap (any (length p)) (fun-ext λ k. rw (body-called q rest r s k))
+  form-steps q rest r s (Case k x t y w) = rw (or-false (entering p flow k q t w r s), or-false (fromBoth rest (resultRow p t) (resultRow p w) r s))
+  form-steps q rest r s (Apply f a) =
+      ap (any (length p)) (fun-ext λ k. rw (body-called q rest r s k) (has-or (flow f (row k)) (funAt p k) (λ (h, x, t). step q t r s) (λ (h, x, t). step (resultRow p t) rest r s)))
+      ∙ any-or (length p) (λ k. flow f (row k) && has (funAt p k) (λ (h, x, t). step q t r s)) (λ k. flow f (row k) && has (funAt p k) (λ (h, x, t). step (resultRow p t) rest r s))
 
   row-steps : (q r s : ℕ) (b : Bind) → bindAt p q ≡ some b → rowSteps p flow q r s ≡ formSteps q (b .rest) (b .form) r s
   unfolding rowSteps kindAt kindOfRow
@@ -107,49 +130,70 @@ module _ (p : Program) (flow : Table) where
 
   -- ---- calls
 
-  called : (q : ℕ) (f : ℕ → Bool) → So (someCalled p flow q f) → (t : ℕ) × So (f t) × Calls p flow q t
+  called : (counts : Sides) (q : ℕ) (f : ℕ → Bool) → So (someCalled p flow counts q f) → (t : ℕ) × So (f t) × Calls p flow counts q t
   unfolding someCalled
-  called q f h =
+  called counts q f h =
       let (k, e, i) = has-elim _ (formAt p q) h in
       ⊎-elim (branch k e) (apply k e) (or-cases _ _ i)
     where
-      branch : (k : Form) → formAt p q ≡ some k → So (has (caseOf k) (λ (s, x, t, y, w). f t || f w)) → (t : ℕ) × So (f t) × Calls p flow q t
+      branch : (k : Form) → formAt p q ≡ some k → So (has (caseOf k) (λ (s, x, t, y, w). (counts s (leftAt p) && f t) || (counts s (rightAt p) && f w)))
+          → (t : ℕ) × So (f t) × Calls p flow counts q t
       branch k e i =
           let ((s, x, t, y, w), c, j) = has-elim _ (caseOf k) i in
           ⊎-elim
-          (λ a. (t, a, λ g b. has-intro _ e (or-left _ (has-intro _ c (or-left _ b)))))
-          (λ a. (w, a, λ g b. has-intro _ e (or-left _ (has-intro _ c (or-right (g t) b)))))
-          (or-cases (f t) (f w) j)
+          (λ a. (
+            t,
+            and-right (counts s (leftAt p)) (f t) a,
+            λ g b. has-intro _ e (or-left _ (has-intro _ c (or-left _ (and-intro (and-left (counts s (leftAt p)) (f t) a) b)))),
+          ))
+          (λ a. (
+            w,
+            and-right (counts s (rightAt p)) (f w) a,
+            λ g b. has-intro _ e (or-left _ (has-intro _ c (or-right (counts s (leftAt p) && g t) (and-intro (and-left (counts s (rightAt p)) (f w) a) b)))),
+          ))
+          (or-cases (counts s (leftAt p) && f t) _ j)
 
       apply : (k : Form) → formAt p q ≡ some k → So (has (applyOf k) (λ (g, a). any (length p) λ s. flow g (row s) && has (funAt p s) (λ (h, x, t). f t)))
-          → (t : ℕ) × So (f t) × Calls p flow q t
+          → (t : ℕ) × So (f t) × Calls p flow counts q t
       apply k e i =
           let ((g, a), c, j) = has-elim _ (applyOf k) i in
           let (s, l, m) = any-elim (length p) _ j in
           let body : So (has (funAt p s) (λ (h, x, t). f t)) = search and-right in
           let there : So (flow g (row s)) = search and-left in
-          let ((h, x, t), d, n) = has-elim _ (funAt p s) body in
-          (t, n, λ g′ b. has-intro _ e (or-right (has (caseOf k) (λ (s, x, t, y, w). g′ t || g′ w)) (has-intro _ c (any-intro _ s l (and-intro there (has-intro _ d b))))))
+          let ((h, x, t), d, n) = has-elim _ (funAt p s) body in (
+            t,
+            n,
+            λ g′ b. has-intro _ e (or-right (has (caseOf k) (λ (s, x, t, y, w). (counts s (leftAt p) && g′ t) || (counts s (rightAt p) && g′ w)))
+                (has-intro _ c (any-intro _ s l (and-intro there (has-intro _ d b))))),
+          )
 
   -- a row that calls is a bind
-  call-bind : (q : ℕ) (f : ℕ → Bool) → So (someCalled p flow q f) → (b : Bind) × (bindAt p q ≡ some b)
+  call-bind : (counts : Sides) (q : ℕ) (f : ℕ → Bool) → So (someCalled p flow counts q f) → (b : Bind) × (bindAt p q ≡ some b)
   unfolding someCalled formAt
-  call-bind q f h =
+  call-bind counts q f h =
       let (k, e, i) = has-elim _ (formAt p q) h in
       let (b, d, c) = bind-elim (bindAt p q) _ e in
       (b, d)
 
   module _ (q : ℕ) (b : Bind) (at : bindAt p q ≡ some b) where
-    calls-form : (f : ℕ → Bool) → someCalled p flow q f ≡ formCalled (b .form) f
+    calls-form : (counts : Sides) (f : ℕ → Bool) → someCalled p flow counts q f ≡ formCalled counts (b .form) f
     unfolding someCalled formCalled has
-    calls-form f = rw (form-at p q b (b .form) at refl, has)
+    calls-form counts f = rw (form-at p q b (b .form) at refl, has)
 
-    call-gives : (t r s : ℕ) → Calls p flow q t → So (callSteps q (b .rest) t (resultRow p t) r s) → So (rowSteps p flow q r s)
+    call-gives : (r s : ℕ) → So (formCalled (enters p flow) (b .form) (λ t. step q t r s) || formCalled always (b .form) (λ t. step (resultRow p t) (b .rest) r s))
+        → So (rowSteps p flow q r s)
     unfolding formSteps
-    call-gives t r s calls h =
+    call-gives r s h =
         rw (row-steps q r s b at)
-        (or-right (plain (b .form) && step q (b .rest) r s)
-        (or-right (has (spawnOf (b .form)) (λ t. step q t r s)) (rw calls-form at (calls (λ t. callSteps q (b .rest) t (resultRow p t) r s) h))))
+        (or-right (plain (b .form) && step q (b .rest) r s) (or-right (has (spawnOf (b .form)) (λ t. step q t r s)) h))
+
+    -- the step into a row that is called, and the step from its result row
+    enter-gives : (t r s : ℕ) → Calls p flow (enters p flow) q t → So (step q t r s) → So (rowSteps p flow q r s)
+    enter-gives t r s calls h = call-gives r s (or-left _ (rw calls-form at (calls (λ t. step q t r s) h)))
+
+    return-gives : (t r s : ℕ) → Calls p flow always q t → So (step (resultRow p t) (b .rest) r s) → So (rowSteps p flow q r s)
+    return-gives t r s calls h =
+        call-gives r s (or-right (formCalled (enters p flow) (b .form) (λ t. step q t r s)) (rw calls-form at (calls (λ t. step (resultRow p t) (b .rest) r s) h)))
 
   fork : (q t : ℕ) (b : Bind) → bindAt p q ≡ some b → spawnOf (b .form) ≡ some t → forkAt p q ≡ some (t, b .rest)
   unfolding forkAt _>>=_
@@ -168,10 +212,10 @@ module _ (p : Program) (flow : Table) where
   -- ---- what a row gives is an edge
 
   given : (q r s : ℕ) → So (rowSteps p flow q r s) → So (edge p flow r s)
-  unfolding formSteps callSteps
+  unfolding formSteps
   given q r s h =
       let (b, at) = row-gives q r s h in
-      ⊎-elim (rest b at) (λ i. ⊎-elim (child b at) (call b at) (or-cases _ _ i)) (or-cases _ _ (rw (row-steps q r s b at) at h))
+      ⊎-elim (rest b at) (λ i. ⊎-elim (child b at) (λ j. ⊎-elim (entry b at) (return b at) (or-cases _ _ j)) (or-cases _ _ i)) (or-cases _ _ (rw (row-steps q r s b at) at h))
     where
       here : (a b : ℕ) → So (edge p flow a b) → So (step a b r s) → So (edge p flow r s)
       here a b e i = let (m, n) = step-elim a b r s i in rw (m, n) e
@@ -182,15 +226,20 @@ module _ (p : Program) (flow : Table) where
       child : (b : Bind) → bindAt p q ≡ some b → So (has (spawnOf (b .form)) (λ t. step q t r s)) → So (edge p flow r s)
       child b at i = let (t, c, j) = has-elim _ (spawnOf (b .form)) i in here q t (edge-child p flow q t (b .rest) (fork q t b at c)) j
 
-      call : (b : Bind) → bindAt p q ≡ some b → So (formCalled (b .form) (λ t. callSteps q (b .rest) t (resultRow p t) r s)) → So (edge p flow r s)
-      call b at i =
-          let (t, j, calls) = called q _ (rw (← (calls-form q b at (λ t. callSteps q (b .rest) t (resultRow p t) r s))) at i) in
-          ⊎-elim (here q t (edge-call p flow q t calls)) (here (resultRow p t) (b .rest) (edge-return p flow q t b at calls)) (or-cases _ _ j)
+      entry : (b : Bind) → bindAt p q ≡ some b → So (formCalled (enters p flow) (b .form) (λ t. step q t r s)) → So (edge p flow r s)
+      entry b at i =
+          let (t, j, calls) = called (enters p flow) q _ (rw (← (calls-form q b at (enters p flow) (λ t. step q t r s))) at i) in
+          here q t (edge-call p flow q t calls) j
+
+      return : (b : Bind) → bindAt p q ≡ some b → So (formCalled always (b .form) (λ t. step (resultRow p t) (b .rest) r s)) → So (edge p flow r s)
+      return b at i =
+          let (t, j, calls) = called always q _ (rw (← (calls-form q b at always (λ t. step (resultRow p t) (b .rest) r s))) at i) in
+          here (resultRow p t) (b .rest) (edge-return p flow q t b at calls) j
 
   -- ---- and an edge is given by a row
 
   taken : (r s : ℕ) → So (edge p flow r s) → So (anyRow p flow (length p) r s)
-  unfolding edge toRest toChild toCalled toCaller anyRow formSteps callSteps forkAt
+  unfolding edge toRest toChild toCalled toCaller anyRow formSteps forkAt
   taken r s h =
       ⊎-elim (λ i. ⊎-elim (λ j. ⊎-elim rest child (or-cases _ _ j)) call (or-cases _ _ i)) back (or-cases _ _ h)
     where
@@ -214,24 +263,23 @@ module _ (p : Program) (flow : Table) where
           let there : So (has (spawnOf (b .form)) (λ t. step r t r s)) = has-intro _ k (step-intro refl (eqb-true s t j ∙ same)) in
           by r b at (rw (row-steps r r s b at) (or-right (plain (b .form) && step r (b .rest) r s) (or-left _ there)))
 
-      call : So (someCalled p flow r (eqb s)) → So (any (length p) λ q. rowSteps p flow q r s)
+      call : So (someCalled p flow (enters p flow) r (eqb s)) → So (any (length p) λ q. rowSteps p flow q r s)
       call i =
-          let (b, at) = call-bind r (eqb s) i in
-          let (t, j, calls) = called r (eqb s) i in
-          by r b at (call-gives r b at t r s calls (or-left _ (step-intro refl (eqb-true s t j))))
+          let (b, at) = call-bind (enters p flow) r (eqb s) i in
+          let (t, j, calls) = called (enters p flow) r (eqb s) i in
+          by r b at (enter-gives r b at t r s calls (step-intro refl (eqb-true s t j)))
 
-      back : So (any (length p) λ q. has (bindAt p q) (λ b. eqb s (b .rest)) && someCalled p flow q (λ t. eqb r (resultRow p t)))
+      back : So (any (length p) λ q. has (bindAt p q) (λ b. eqb s (b .rest)) && someCalled p flow always q (λ t. eqb r (resultRow p t)))
           → So (any (length p) λ q. rowSteps p flow q r s)
       back i =
           let (q, l, j) = any-elim (length p) _ i in
           let there : So (has (bindAt p q) (λ b. eqb s (b .rest))) = search and-left in
-          let calling : So (someCalled p flow q (λ t. eqb r (resultRow p t))) = search and-right in
+          let calling : So (someCalled p flow always q (λ t. eqb r (resultRow p t))) = search and-right in
           let (b, at, k) = has-elim _ (bindAt p q) there in
-          let (t, m, calls) = called q _ calling in
+          let (t, m, calls) = called always q _ calling in
           let e : s ≡ b .rest = eqb-true s (b .rest) k in
           let d : r ≡ resultRow p t = eqb-true r (resultRow p t) m in
-          let back-step : So (step (resultRow p t) (b .rest) r s) = step-intro d e in
-          by q b at (call-gives q b at t r s calls (or-right (step q t r s) back-step))
+          by q b at (return-gives q b at t r s calls (step-intro d e))
 
   pub edge-rows : (r s : ℕ) → anyRow p flow (length p) r s ≡ edge p flow r s
   unfolding anyRow
@@ -241,7 +289,15 @@ module _ (p : Program) (flow : Table) where
       some h = let (q, l, i) = any-elim (length p) (λ q. rowSteps p flow q r s) h in given q r s i
 
 -- in a store, what all n rows give
-pub told-edges : (n : ℕ) (s : Bytes) (flow : Table) (q : ℕ) {a b : Bytes} → q ≡ n → Told n (anyRow (storeProgram n s) flow q) a b → Told n (edge (storeProgram n s) flow) a b
-told-edges n s flow q e h =
+pub fills-edges : (n : ℕ) (s : Bytes) (flow : Table) (q : ℕ) {a b : Bytes} → q ≡ n → Fills (among n (anyRow (storeProgram n s) flow q)) a b
+    → Fills (among n (edge (storeProgram n s) flow)) a b
+fills-edges n s flow q e h =
     let l : q ≡ length (storeProgram n s) = e ∙ sym (program-length n s) in
-    told-as (λ r t. rw l (edge-rows (storeProgram n s) flow r t)) h
+    fills-as (λ r t. among-as n (anyRow (storeProgram n s) flow q) (edge (storeProgram n s) flow) r t (rw l (edge-rows (storeProgram n s) flow r t))) h
+
+-- the grid of the edges, closed
+pub fills-reach : (n : ℕ) (s : Bytes) (flow : Table) {bytes left next : Bytes} → Fills (among n (edge (storeProgram n s) flow)) bytes left → Closes n left next
+    → Fills (reach (storeProgram n s) flow) bytes next
+unfolding reach
+fills-reach n s flow h c =
+    record { kept = kept-then (h .kept) (c .kept); shows = rw program-length (c .closes (edge (storeProgram n s) flow) (h .shows)) }

@@ -1,3 +1,2 @@
-pub mod Grid
+-- The row steps of a program, by the rows that give them.
 pub mod Edges
-pub mod Rounds

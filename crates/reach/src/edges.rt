@@ -1,12 +1,13 @@
 // The row steps of a program in a store, marked in a grid: for each row those that it gives, from itself and from the
 // results of what it calls.
 use forms::row_in;
+use grids::clear;
+use grids::mark;
 use program::Form;
 use program::Row;
 use store::Store;
 use tables::flow_flag;
 ghost use mathlib.Core.Path.{_≡_};
-ghost use mathlib.Core.Bool.{false};
 ghost use Prim.Native.Nat.{_<_, _≤_};
 ghost use lib.ListN.{length};
 ghost use Rattle.program.specs.Program.{resultRow};
@@ -14,17 +15,33 @@ ghost use Rattle.program.specs.Walk.{edge};
 ghost use Rattle.format.specs.Limits.{rowLimit};
 ghost use Rattle.store.specs.Rows.{storeProgram};
 ghost use Rattle.tables.specs.Tables.{storeFlow};
-ghost use Rattle.reach.specs.Grid.{gridSize, Told, Adds};
-ghost use Rattle.reach.specs.Edges.{kindOf, kindAt, bodyResult, BodyResults, step, callSteps, bodySteps, anyBody, rowSteps};
+ghost use Rattle.grids.specs.Grid.{gridSize, Fills, among, step, AddsPairs};
+ghost use Rattle.reach.specs.Edges.{kindOf, kindAt, bodyResult, BodyResults, callSteps, intoBoth, fromBoth, bodySteps, anyBody, rowSteps};
 
 // What a row is, as far as row steps ask.
 pub enum Kind {
     End,
-    Next { rest: u8 },
-    Body { body: u8, rest: u8 },
-    Fork { child: u8, rest: u8 },
-    Branch { left: u8, right: u8, rest: u8 },
-    Call { function: u8, rest: u8 },
+    Next {
+        rest: u8,
+    },
+    Body {
+        body: u8,
+        rest: u8,
+    },
+    Fork {
+        child: u8,
+        rest: u8,
+    },
+    Branch {
+        subject: u8,
+        left: u8,
+        right: u8,
+        rest: u8,
+    },
+    Call {
+        function: u8,
+        rest: u8,
+    },
 }
 
 // The kind of a bind.
@@ -61,12 +78,13 @@ fn kind_of(form: Form, rest: u8) -> Kind
         Form::First { pair: _ } => Kind::Next { rest: rest },
         Form::Second { pair: _ } => Kind::Next { rest: rest },
         Form::Case {
-            subject: _,
+            subject,
             left_name: _,
             left,
             right_name: _,
             right,
         } => Kind::Branch {
+            subject: subject,
             left: left,
             right: right,
             rest: rest,
@@ -120,6 +138,7 @@ fn body_result(store: &[u8], rows: u8, k: u8) -> u8
         Kind::Body { body, rest: _ } => result_row(store, rows, body),
         Kind::Fork { child: _, rest: _ } => 0,
         Kind::Branch {
+            subject: _,
             left: _,
             right: _,
             rest: _,
@@ -146,38 +165,10 @@ fn body_results(store: &[u8], rows: u8) -> [u8; Store::ROWS]
     results
 }
 
-// Sets the bytes of the first rows to 0.
-fn clear_rows(grid: &mut [u8], rows: u8)
-    requires { ⌜ (rows ≤ rowLimit) × (gridSize ≤ length (now grid)) ⌝ }
-    ensures { λ _. ⌜ Told rows (λ r s. false) (now (grid .entry)) (now (grid .exit)) ⌝ }
-{
-    let end = rows as usize * Store::ROWS;
-    let mut i = 0;
-    while i < end {
-        grid[i] = 0;
-        i += 1;
-    }
-}
-
-// Marks the step from row a to row b, where both are there.
-fn mark(grid: &mut [u8], rows: u8, a: u8, b: u8)
-    requires { ⌜ (rows ≤ rowLimit) × (gridSize ≤ length (now grid)) ⌝ }
-    ensures { λ _. ⌜ Adds rows (step a b) (now (grid .entry)) (now (grid .exit)) ⌝ }
-{
-    if rows <= a {
-        return;
-    }
-    if rows <= b {
-        return;
-    }
-    let at = a as usize * Store::ROWS + b as usize;
-    grid[at] = 1;
-}
-
 // Marks the steps of a call of row t from row q: to t, and from t's result row to q's rest.
 fn mark_call(grid: &mut [u8], rows: u8, q: u8, rest: u8, t: u8, result: u8)
     requires { ⌜ (rows ≤ rowLimit) × (gridSize ≤ length (now grid)) ⌝ }
-    ensures { λ _. ⌜ Adds rows (callSteps q rest t result) (now (grid .entry)) (now (grid .exit)) ⌝ }
+    ensures { λ _. ⌜ AddsPairs rows (callSteps q rest t result) (now (grid .entry)) (now (grid .exit)) ⌝ }
 {
     mark(grid, rows, q, t);
     mark(grid, rows, result, rest);
@@ -187,7 +178,7 @@ fn mark_call(grid: &mut [u8], rows: u8, q: u8, rest: u8, t: u8, result: u8)
 fn mark_body(store: &[u8], rows: u8, results: &[u8], grid: &mut [u8], q: u8, rest: u8, f: u8, k: u8)
     requires { ⌜ (rows ≤ rowLimit) × (gridSize ≤ length (now grid)) × (k < rows) ⌝ }
     requires { ⌜ BodyResults (storeProgram rows (now store)) rows (now results) ⌝ }
-    ensures { λ _. ⌜ Adds rows (bodySteps (storeProgram rows (now (store .entry))) (storeFlow (now (store .entry))) q rest f k) (now (grid .entry)) (now (grid .exit)) ⌝ }
+    ensures { λ _. ⌜ AddsPairs rows (bodySteps (storeProgram rows (now (store .entry))) (storeFlow (now (store .entry))) q rest f k) (now (grid .entry)) (now (grid .exit)) ⌝ }
 {
     if flow_flag(store, f, k + 1) == 0 {
         return;
@@ -203,7 +194,7 @@ fn mark_body(store: &[u8], rows: u8, results: &[u8], grid: &mut [u8], q: u8, res
 fn mark_bodies(store: &[u8], rows: u8, results: &[u8], grid: &mut [u8], q: u8, rest: u8, f: u8)
     requires { ⌜ (rows ≤ rowLimit) × (gridSize ≤ length (now grid)) ⌝ }
     requires { ⌜ BodyResults (storeProgram rows (now store)) rows (now results) ⌝ }
-    ensures { λ _. ⌜ Adds rows (anyBody (storeProgram rows (now (store .entry))) (storeFlow (now (store .entry))) q rest f rows) (now (grid .entry)) (now (grid .exit)) ⌝ }
+    ensures { λ _. ⌜ AddsPairs rows (anyBody (storeProgram rows (now (store .entry))) (storeFlow (now (store .entry))) q rest f rows) (now (grid .entry)) (now (grid .exit)) ⌝ }
 {
     let mut k = 0;
     while k < rows {
@@ -212,11 +203,29 @@ fn mark_bodies(store: &[u8], rows: u8, results: &[u8], grid: &mut [u8], q: u8, r
     }
 }
 
+// Marks the steps into the branches of case row q: both are entered.
+fn mark_entering(grid: &mut [u8], rows: u8, q: u8, left: u8, right: u8)
+    requires { ⌜ (rows ≤ rowLimit) × (gridSize ≤ length (now grid)) ⌝ }
+    ensures { λ _. ⌜ AddsPairs rows (intoBoth q left right) (now (grid .entry)) (now (grid .exit)) ⌝ }
+{
+    mark(grid, rows, q, left);
+    mark(grid, rows, q, right);
+}
+
+// Marks the steps from the result rows of the branches to the rest.
+fn mark_returning(grid: &mut [u8], rows: u8, left_result: u8, right_result: u8, rest: u8)
+    requires { ⌜ (rows ≤ rowLimit) × (gridSize ≤ length (now grid)) ⌝ }
+    ensures { λ _. ⌜ AddsPairs rows (fromBoth rest «left_result» «right_result») (now (grid .entry)) (now (grid .exit)) ⌝ }
+{
+    mark(grid, rows, left_result, rest);
+    mark(grid, rows, right_result, rest);
+}
+
 // Marks the row steps that row q gives.
 fn mark_row(store: &[u8], rows: u8, results: &[u8], grid: &mut [u8], q: u8)
     requires { ⌜ (rows ≤ rowLimit) × (gridSize ≤ length (now grid)) ⌝ }
     requires { ⌜ BodyResults (storeProgram rows (now store)) rows (now results) ⌝ }
-    ensures { λ _. ⌜ Adds rows (rowSteps (storeProgram rows (now (store .entry))) (storeFlow (now (store .entry))) q) (now (grid .entry)) (now (grid .exit)) ⌝ }
+    ensures { λ _. ⌜ AddsPairs rows (rowSteps (storeProgram rows (now (store .entry))) (storeFlow (now (store .entry))) q) (now (grid .entry)) (now (grid .exit)) ⌝ }
 {
     match kind_at(store, rows, q) {
         Kind::End => {}
@@ -226,23 +235,28 @@ fn mark_row(store: &[u8], rows: u8, results: &[u8], grid: &mut [u8], q: u8)
             mark(grid, rows, q, rest);
             mark(grid, rows, q, child);
         }
-        Kind::Branch { left, right, rest } => {
+        Kind::Branch {
+            subject: _,
+            left,
+            right,
+            rest,
+        } => {
             let left_result = result_row(store, rows, left);
             let right_result = result_row(store, rows, right);
-            mark_call(grid, rows, q, rest, left, left_result);
-            mark_call(grid, rows, q, rest, right, right_result);
+            mark_entering(grid, rows, q, left, right);
+            mark_returning(grid, rows, left_result, right_result, rest);
         }
         Kind::Call { function, rest } => mark_bodies(store, rows, results, grid, q, rest, function),
     }
 }
 
-// Fills the grid: the byte of r and s is 1 if row r steps to row s, else 0.
+// Fills the grid: the byte of r and s is 1 if both are rows of the program and row r steps to row s, else 0.
 pub fn fill_edges(store: &[u8], rows: u8, grid: &mut [u8])
     requires { ⌜ (rows ≤ rowLimit) × (gridSize ≤ length (now grid)) ⌝ }
-    ensures { λ _. ⌜ Told rows (edge (storeProgram rows (now (store .entry))) (storeFlow (now (store .entry)))) (now (grid .entry)) (now (grid .exit)) ⌝ }
+    ensures { λ _. ⌜ Fills (among rows (edge (storeProgram rows (now (store .entry))) (storeFlow (now (store .entry))))) (now (grid .entry)) (now (grid .exit)) ⌝ }
 {
     let results = body_results(store, rows);
-    clear_rows(grid, rows);
+    clear(grid);
     let mut q = 0;
     while q < rows {
         mark_row(store, rows, &results, grid, q);

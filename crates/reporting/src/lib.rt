@@ -3,7 +3,7 @@ use calls::JudgeAnswer;
 use calls::LoadAnswer;
 use entry::Opened;
 use format::Refusal;
-use reach::GRID;
+use grids::GRID;
 use store::Store;
 ghost use Prim.Native.Nat.{_≤_};
 ghost use lib.ListN.{length};
@@ -13,7 +13,7 @@ ghost use Rattle.format.specs.Limits.{rowLimit};
 ghost use Rattle.calls.specs.Layout.{storeSize};
 ghost use Rattle.store.specs.Rows.{storeProgram};
 ghost use Rattle.tables.specs.Tables.{storeFlow};
-ghost use Rattle.reach.specs.Grid.{gridSize, Tells};
+ghost use Rattle.grids.specs.Grid.{gridSize, Shows};
 
 // Prints a number behind a space.
 pub fn print_number(n: usize) {
@@ -58,7 +58,7 @@ fn print_channel(c: u8, words: [bool; 4]) {
 // The verdict of each chan row, rows rising, told by one grid of which rows reach which.
 fn print_channels(store: &[u8], rows: u8, grid: &[u8])
     requires { ⌜ (storeSize ≤ length (now store)) × (rows ≤ rowLimit) × (gridSize ≤ length (now grid)) ⌝ }
-    requires { ⌜ Tells rows (reach (storeProgram rows (now store)) (storeFlow (now store))) (now grid) ⌝ }
+    requires { ⌜ Shows (reach (storeProgram rows (now store)) (storeFlow (now store))) (now grid) ⌝ }
 {
     let mut c = 0;
     while c < rows {

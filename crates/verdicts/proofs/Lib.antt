@@ -1,5 +1,4 @@
 -- Laws about the definitions of specs/.
-pub mod Marking
-pub mod Placing
 pub mod Walking
+pub mod Ends
 pub mod Wording

@@ -1,15 +1,18 @@
 -- What walks come to, as a loop over the rows finds it.
-use Prim.Native.Nat.{ℕ, zero, suc, _+_, _<_, _≤_}
+use Prim.Native.Nat.{ℕ, _+_, _<_}
 use native.Mathlib.Omega.{arith}
 use native.Mathlib.Numerals.{add-one}
-use mathlib.Core.Bool.{Bool, true, false, _&&_, _||_}
-use mathlib.Core.Path.{_≡_, refl, sym, ap, ap₂, _∙_}
-use lib.Dec.{ltb}
-use borrow.Author.Tests.{lt-ltb, le-ltb}
+use native.Mathlib.Decide.{ℕ-discrete as decEq}
+use mathlib.Core.Bool.{Bool, true, false, _&&_}
+use mathlib.Core.Path.{_≡_, sym}
+use lib.ListN.{set, length-set}
+use lib.Seq.{getD-set-same, getD-set-other}
+use borrow.Author.Tests.{lt-ltb, ne-eqb}
 use Rattle.program.specs.Test.{any}
 use Rattle.program.proofs.Test.{any-intro}
 use Rattle.format.specs.Text.{Bytes, byteAt}
-use Rattle.verdicts.specs.Marks.{on}
+use Rattle.row_marks.specs.RowMarks.{on, Marked}
+use Rattle.verdicts.specs.Walks.{comesTo}
 
 module _ (f : ℕ → Bool) where
   pub none-more : (q : ℕ) → any q f ≡ false → f q ≡ false → any (q + 1) f ≡ false
@@ -27,3 +30,15 @@ module _ (marks : Bytes) (q : ℕ) {x : ℕ} (e : x ≡ byteAt marks q) where
   pub is-on : (b : Bool) → (x ≡ 0 → ⊥) → on marks q && b ≡ b
   unfolding on
   is-on b z = rw (← e, lt-ltb 0 x (omega arith))
+
+-- row 0 too
+pub marked-first : {n : ℕ} (grid : Bytes) {s : Bytes} → Marked n (on grid) s → Marked n (comesTo grid) (set s 0 1)
+unfolding on comesTo
+marked-first grid {s} m =
+    record {
+      size = simp length-set (m .size);
+      rows = λ r h. elim (decEq r 0) [
+        | yes q ↦ rw (q, getD-set-same s 0 1 0 (omega (arith, m .size)))
+        | no d ↦ rw (getD-set-other s 0 r 1 0 d, ne-eqb r 0 d) (m .rows r h)
+      ];
+    }

@@ -1,21 +1,23 @@
--- What the bytes find of the walks is what the definitions say, and the words follow from what is found at the two ends.
-use Prim.Native.Nat.{ℕ, _+_, _*_, _<_, _≤_}
+-- What is found at the two ends of a channel, from the marks of its places and of the rows that walks come to, and the words that follow.
+use Prim.Native.Nat.{ℕ, _*_, _<_, _≤_}
 use native.Mathlib.Omega.{arith}
 use native.Mathlib.Nat.{zero-add}
-use native.Mathlib.Decide.{decLt}
-use mathlib.Core.Bool.{Bool, true, false, not, _&&_, _||_}
+use mathlib.Core.Bool.{Bool, false, _&&_, _||_}
 use mathlib.Core.List.{[], _∷_, map}
-use mathlib.Core.Option.{Option, none, some}
+use mathlib.Core.Option.{none}
 use mathlib.Core.Path.{_≡_, refl, sym, ap, ap₂, _∙_}
 use lib.ListN.{length}
-use lib.Dec.{ltb, eqb}
-use borrow.Author.Tests.{lt-ltb, le-ltb}
-use Rattle.program.specs.Test.{pick, any}
+use lib.Dec.{eqb}
+use Rattle.program.specs.declared.Ends.{Ends}
+use Rattle.program.specs.declared.Facts.{Facts}
+use Rattle.program.specs.declared.Word.{Word}
+use Rattle.program.specs.declared.Word.the-variants.{OneShot, OneToOne, FanOut, FanIn}
 use Rattle.program.specs.Maybe.{has, _>>=_}
-use Rattle.program.specs.Program.{Program, bindAt, bindOf, formAt, syncAt, forkAt}
+use Rattle.program.specs.Flow.{Table}
+use Rattle.program.specs.Program.{Program, bindAt, bindOf, formAt, syncAt}
 use Rattle.program.specs.Walk.{sendPlace, receivePlace}
-use Rattle.program.specs.Verdict.{reach, reached, leads, inARow, rivals, verdict}
-use Rattle.program.proofs.Decides.Closure.{closed-past}
+use Rattle.program.specs.Verdict.{reach, says, reached, inARow, rivals, ends, facts, verdict}
+use Rattle.program.proofs.Test.{any-same}
 use Rattle.format.specs.Limits.{rowLimit}
 use Rattle.format.specs.Text.{Bytes}
 use Rattle.calls.specs.Judging.{verdictWords}
@@ -23,23 +25,23 @@ use Rattle.store.specs.Rows.{storeProgram}
 use Rattle.store.proofs.Laws.{program-length}
 use Rattle.tables.specs.Tables.{storeFlow}
 use Rattle.forms.proofs.Forms.{row-past}
-use Rattle.reach.specs.Grid.{Tells}
-use Rattle.verdicts.specs.declared.places.Side.{Side}
-use Rattle.verdicts.specs.declared.places.Side.the-variants.{Sends, Receives}
-use Rattle.verdicts.specs.declared.Ends.{Ends}
-use Rattle.verdicts.specs.Marks.{on, Marked, meets, threeMeet}
-use Rattle.verdicts.specs.Places.{place}
-use Rattle.verdicts.specs.Walks.{comesTo, aheadOf, leadsOn, forksOn, rivalsOn}
-use Rattle.verdicts.specs.Words.{EndsAre, wordIn}
-use Rattle.program.proofs.Test.{any-same}
-use Rattle.verdicts.proofs.Placing.{any-none}
+use Rattle.grids.specs.Grid.{Shows}
+use Rattle.row_marks.specs.RowMarks.{on, marked, Marked}
+use Rattle.row_marks.proofs.Marking.{marked-in, marked-is}
+use Rattle.place_marks.specs.declared.Side.{Side}
+use Rattle.place_marks.specs.declared.Side.the-variants.{Sends, Receives}
+use Rattle.place_marks.specs.Places.{place}
+use Rattle.verdicts.specs.Walks.{comesTo}
+use Rattle.verdicts.specs.Words.{wordIn, factsIn}
+use Rattle.verdicts.proofs.Ends.{on-pick}
 
-on-pick : (b : Bool) → ltb 0 (pick b 1 0) ≡ b
-on-pick true = refl
-on-pick false = refl
-
-or-none : (b : Bool) → b ≡ false → (c : Bool) → c ≡ false → b || c ≡ false
-or-none b e c d = rw (e, d)
+-- what is found depends on the rows of the program that shared beginnings come to, and on no other
+ends-same : (p : Program) (reach : ℕ → ℕ → Bool) (f g places : ℕ → Bool) → ((r : ℕ) → r < length p → f r ≡ g r) → ends p reach f places ≡ ends p reach g places
+unfolding ends inARow rivals
+ends-same p reach f g places e =
+    let twice : inARow p reach f places ≡ inARow p reach g places = any-same (length p) _ _ (λ r l. rw (e r l)) in
+    let rival : rivals p reach f places ≡ rivals p reach g places = any-same (length p) _ _ (λ r l. rw (e r l)) in
+    rw (twice, rival)
 
 module _ (n : ℕ) (s : Bytes) where
   abbrev p : Program
@@ -48,76 +50,38 @@ module _ (n : ℕ) (s : Bytes) where
   abbrev reaches : ℕ → ℕ → Bool
   reaches = reach p (storeFlow s)
 
-  abbrev at : Side → ℕ → ℕ → Bool
-  at side c = place p (storeFlow s) side c
-
-  -- past the last row there is no place, and nothing is reached
+  -- past the last row there is no place
   sync-past : (r : ℕ) → n ≤ r → syncAt p r ≡ none
   unfolding syncAt formAt bindAt bindOf _>>=_
   sync-past r l = rw (row-past n s r l, bindOf, _>>=_, _>>=_)
 
-  place-past : (side : Side) (c r : ℕ) → n ≤ r → at side c r ≡ false
+  place-past : (side : Side) (c r : ℕ) → n ≤ r → place p (storeFlow s) side c r ≡ false
   unfolding place sendPlace receivePlace has
   place-past Sends c r l = rw (sync-past r l)
   place-past Receives c r l = rw (sync-past r l)
 
-  reach-past : (r k : ℕ) → n ≤ r → reaches r k ≡ false
-  unfolding reach
-  reach-past r k l = closed-past (length p) _ r k (rw (program-length n s) l)
+  -- the rows that a walk comes to
+  comes-is : (grid : Bytes) {marks : Bytes} → n ≤ rowLimit → Shows reaches grid → Marked n (comesTo grid) marks → (r : ℕ) → r < n → marked n marks r ≡ reached p reaches r
+  unfolding comesTo reached on
+  comes-is grid {marks} few shows m r l =
+      sym (marked-in n marks r l) ∙ m .rows r l
+      ∙ ap (λ (b : Bool). eqb r 0 || b) (rw (rw zero-add at (shows 0 r (omega arith) (omega arith))) (on-pick _))
 
-  module _ (side : Side) (c : ℕ) (grid : Bytes) {reachedRows marks ahead : Bytes}
-      (tells : Tells n reaches grid)
-      (comes : Marked n (comesTo grid) reachedRows)
-      (places : Marked n (at side c) marks)
-      (leading : Marked n (aheadOf n grid marks) ahead)
-    where
-      pair-on : (r k : ℕ) → r < n → k < n → on grid (r * rowLimit + k) ≡ reaches r k
-      unfolding on
-      pair-on r k l m = rw (tells r k l m) (on-pick _)
+  pub channel-facts : (c : ℕ) (grid : Bytes) {comes sends receives : Bytes} {f : Facts} → n ≤ rowLimit → Shows reaches grid → Marked n (comesTo grid) comes
+      → Marked n (place p (storeFlow s) Sends c) sends → Marked n (place p (storeFlow s) Receives c) receives
+      → f ≡ facts p reaches (marked n comes) (marked n sends) (marked n receives) → f ≡ factsIn p (storeFlow s) c
+  unfolding factsIn facts place
+  channel-facts c grid {comes} few shows m a b e =
+      let same : (places : ℕ → Bool) → ends p reaches (marked n comes) places ≡ ends p reaches (reached p reaches) places =
+      λ places. ends-same p reaches _ _ places λ r l. comes-is grid few shows m r (rw (program-length n s) at l) in
+      e ∙ rw (marked-is n a (place-past Sends c), marked-is n b (place-past Receives c), same (sendPlace p (storeFlow s) c), same (receivePlace p (storeFlow s) c))
 
-      ahead-is : (r : ℕ) → r < n → on ahead r ≡ any (length p) (λ k. reaches r k && at side c k)
-      unfolding aheadOf meets
-      ahead-is r l =
-          leading .rows r l
-          ∙ rw (program-length n s) (any-same n _ _ λ k m. ap₂ _&&_ (pair-on r k l m) (places .rows k m))
+-- the words
+module _ (p : Program) (flow : Table) (c : ℕ) {f : Facts} (e : f ≡ factsIn p flow c) where
+  pub word-is : (word : Word) {b : Bool} → b ≡ says word f → b ≡ wordIn p flow c word
+  unfolding wordIn verdict factsIn
+  word-is word q = q ∙ rw e
 
-      comes-is : (r : ℕ) → r < n → on reachedRows r ≡ reached p reaches r
-      unfolding comesTo reached
-      comes-is r l = comes .rows r l ∙ ap (λ b. eqb r 0 || b) (rw zero-add at (pair-on 0 r (omega arith) l))
-
-      twice-is : threeMeet n reachedRows marks ahead ≡ inARow p reaches (reached p reaches) (at side c)
-      unfolding threeMeet inARow
-      twice-is = any-same n _ _ (λ r l. ap₂ _&&_ (comes-is r l) (ap₂ _&&_ (places .rows r l) (ahead-is r l))) ∙ rw (program-length n s)
-
-      leads-is : (r : ℕ) → leadsOn n marks ahead r ≡ leads p reaches (at side c) r
-      unfolding leadsOn leads
-      leads-is r =
-          elim (decLt r n) [
-            | yes l ↦ rw (lt-ltb r n l) (ap₂ _||_ (places .rows r l) (ahead-is r l))
-            | no g ↦
-                rw (le-ltb r n (omega arith))
-                (sym
-                (or-none _ (place-past side c r (omega arith)) _
-                (any-same (length p) _ (λ k. false) (λ k l. ap (λ b. b && at side c k) (reach-past r k (omega arith))) ∙ any-none (length p))))
-          ]
-
-      forks-is : (o : Option (ℕ × ℕ))
-          → has o (λ (t, rest). leadsOn n marks ahead t && leadsOn n marks ahead rest) ≡ has o (λ (t, rest). leads p reaches (at side c) t && leads p reaches (at side c) rest)
-      unfolding has
-      forks-is none = refl
-      forks-is (some (t, rest)) = ap₂ _&&_ (leads-is t) (leads-is rest)
-
-      rivals-are : rivalsOn n p reachedRows marks ahead ≡ rivals p reaches (reached p reaches) (at side c)
-      unfolding rivalsOn forksOn rivals
-      rivals-are = any-same n _ _ (λ q l. ap₂ _&&_ (comes-is q l) (forks-is (forkAt p q))) ∙ rw (program-length n s)
-
-      pub ends-are : {twice rival : Bool} → twice ≡ threeMeet n reachedRows marks ahead → rival ≡ rivalsOn n p reachedRows marks ahead
-          → EndsAre p (storeFlow s) side c (record { twice = twice; rivals = rival })
-      ends-are e f = record { twice-is = e ∙ twice-is; rivals-is = f ∙ rivals-are }
-
-  -- the words
-  pub words-are : (c : ℕ) {sends receives : Ends} {oneShot oneToOne : Bool}
-      → EndsAre p (storeFlow s) Sends c sends → EndsAre p (storeFlow s) Receives c receives → oneShot ≡ not (sends .twice) && not (sends .rivals) → oneToOne ≡ not (sends .rivals) && not (receives .rivals)
-      → oneShot ∷ oneToOne ∷ not (sends .rivals) ∷ not (receives .rivals) ∷ [] ≡ map (wordIn p (storeFlow s) c) verdictWords
-  unfolding wordIn verdict place
-  words-are c a b e f = rw (e, f, a .twice-is, a .rivals-is, b .rivals-is)
+  pub words-are : {oneShot oneToOne fanOut fanIn : Bool} → oneShot ≡ says OneShot f → oneToOne ≡ says OneToOne f → fanOut ≡ says FanOut f → fanIn ≡ says FanIn f
+      → oneShot ∷ oneToOne ∷ fanOut ∷ fanIn ∷ [] ≡ map (wordIn p flow c) verdictWords
+  words-are h i j k = rw (word-is OneShot h, word-is OneToOne i, word-is FanOut j, word-is FanIn k)

@@ -1,5 +1,3 @@
--- Sets of rows as bytes, the places of a channel, what walks come to, and what the words say of a channel.
-pub mod Marks
-pub mod Places
+-- What walks come to, and what the words say of a channel.
 pub mod Walks
 pub mod Words

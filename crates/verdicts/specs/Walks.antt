@@ -7,7 +7,7 @@ use Rattle.program.specs.Maybe.{has}
 use Rattle.program.specs.Program.{Program, forkAt}
 use Rattle.format.specs.Limits.{rowLimit}
 use Rattle.format.specs.Text.{Bytes}
-use Rattle.verdicts.specs.Marks.{on, meets}
+use Rattle.row_marks.specs.RowMarks.{on, meets}
 
 -- a walk comes to row r
 unfoldable pub comesTo : Bytes → ℕ → Bool

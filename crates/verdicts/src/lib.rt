@@ -1,36 +1,28 @@
-// The words of a channel: which of the four topologies hold of it, told by a grid of which rows reach which.
-use crate::marks::three_meet;
-use crate::places::Side;
-use crate::places::places;
+// The words of a channel: which of the topologies hold of it, told by a grid of which rows reach which.
 use crate::walks::reached_rows;
 use crate::walks::rivals;
 use crate::walks::rows_ahead;
+use place_marks::Side;
+use place_marks::places;
+use program::Ends;
+use program::Facts;
+use program::Word;
+use row_marks::three_meet;
 ghost use mathlib.Core.Bool.{not, _&&_};
 ghost use mathlib.Core.List.{map};
 ghost use mathlib.Core.Path.{_≡_};
 ghost use Prim.Native.Nat.{_≤_};
 ghost use lib.ListN.{length};
-ghost use Rattle.program.specs.Verdict.{reach, reached};
+ghost use Rattle.program.specs.Verdict.{reach, says};
 ghost use Rattle.format.specs.Limits.{rowLimit};
 ghost use Rattle.calls.specs.Layout.{storeSize};
 ghost use Rattle.calls.specs.Judging.{verdictWords};
 ghost use Rattle.store.specs.Rows.{storeProgram};
 ghost use Rattle.tables.specs.Tables.{storeFlow};
-ghost use Rattle.reach.specs.Grid.{gridSize, Tells};
-ghost use Rattle.verdicts.specs.Marks.{Marked};
-ghost use Rattle.verdicts.specs.Walks.{comesTo};
-ghost use Rattle.verdicts.specs.Words.{EndsAre, wordIn};
+ghost use Rattle.grids.specs.Grid.{gridSize, Shows};
+ghost use Rattle.verdicts.specs.Words.{endsAt, factsAt, wordIn, factsIn};
 
-mod marks; // marks.rt: sets of rows as bytes
-mod places; // places.rt: the send and receive places of a channel
 mod walks; // walks.rt: what walks come to
-
-// What is found at one end of a channel: a walk that comes to two places one after the other, and two walks that part at a
-// spawn row and come to places.
-pub struct Ends {
-    pub twice: bool,
-    pub rivals: bool,
-}
 
 // Neither holds.
 fn neither(a: bool, b: bool) -> bool
@@ -42,31 +34,88 @@ fn neither(a: bool, b: bool) -> bool
     !b
 }
 
-// One end of channel row c.
-fn end_of(store: &[u8], rows: u8, grid: &[u8], reached: &[u8], side: Side, c: u8) -> Ends
-    requires { ⌜ (storeSize ≤ length (now store)) × (rows ≤ rowLimit) × (gridSize ≤ length (now grid)) ⌝ }
-    requires { ⌜ Tells rows (reach (storeProgram rows (now store)) (storeFlow (now store))) (now grid) ⌝ }
-    requires { ⌜ Marked rows (comesTo (now grid)) (now reached) ⌝ }
-    ensures { λ e. ⌜ (let bytes = now (store .entry) in EndsAre (storeProgram rows bytes) (storeFlow bytes) side c e) ⌝ }
+// What a word says, by what is found at the two ends of a channel.
+pub fn says(word: Word, found: Facts) -> bool
+    ensures { λ b. ⌜ b ≡ says word found ⌝ }
 {
-    let at = places(store, rows, side, c);
-    let ahead = rows_ahead(grid, rows, &at);
-    Ends {
-        twice: three_meet(reached, &at, &ahead, rows as usize),
-        rivals: rivals(store, rows, reached, &at, &ahead),
+    let sends = found.sends;
+    let receives = found.receives;
+    match word {
+        Word::OneShot => neither(sends.twice, sends.rivals),
+        Word::OneToOne => neither(sends.rivals, receives.rivals),
+        Word::FanOut => !sends.rivals,
+        Word::FanIn => !receives.rivals,
+        Word::Many => true,
     }
+}
+
+// What is found of the walks that come to the marked places, where `comes` marks the rows that their shared beginnings come to.
+fn ends_of(store: &[u8], rows: u8, grid: &[u8], comes: &[u8], places: &[u8]) -> Ends
+    requires { ⌜ (rows ≤ rowLimit) × (gridSize ≤ length (now grid)) × (rowLimit ≤ length (now comes)) × (rowLimit ≤ length (now places)) ⌝ }
+    requires { ⌜ Shows (reach (storeProgram rows (now store)) (storeFlow (now store))) (now grid) ⌝ }
+    ensures { λ e. ⌜ (let bytes = now (store .entry) in e ≡ endsAt rows (storeProgram rows bytes) (storeFlow bytes) (now (comes .entry)) (now (places .entry))) ⌝ }
+{
+    let ahead = rows_ahead(grid, rows, places);
+    Ends {
+        twice: three_meet(comes, places, &ahead, rows as usize),
+        rivals: rivals(store, rows, comes, places, &ahead),
+    }
+}
+
+// The same of marked send places and marked receive places.
+pub fn facts(
+    store: &[u8],
+    rows: u8,
+    grid: &[u8],
+    comes: &[u8],
+    sends: &[u8],
+    receives: &[u8],
+) -> Facts
+    requires { ⌜ (rows ≤ rowLimit) × (gridSize ≤ length (now grid)) × (rowLimit ≤ length (now comes)) × (rowLimit ≤ length (now sends)) × (rowLimit ≤ length (now receives)) ⌝ }
+    requires { ⌜ Shows (reach (storeProgram rows (now store)) (storeFlow (now store))) (now grid) ⌝ }
+    ensures { λ f. ⌜ (let bytes = now (store .entry) in f ≡ factsAt rows (storeProgram rows bytes) (storeFlow bytes) (now (comes .entry)) (now (sends .entry)) (now (receives .entry))) ⌝ }
+{
+    let of_sends = ends_of(store, rows, grid, comes, sends);
+    let of_receives = ends_of(store, rows, grid, comes, receives);
+    Facts {
+        sends: of_sends,
+        receives: of_receives,
+    }
+}
+
+// What is found at the ends of channel row c: over all pairs of walks that can share a run, whose shared beginnings come to
+// every row that a walk comes to.
+fn channel_facts(store: &[u8], rows: u8, grid: &[u8], c: u8) -> Facts
+    requires { ⌜ (storeSize ≤ length (now store)) × (rows ≤ rowLimit) × (gridSize ≤ length (now grid)) ⌝ }
+    requires { ⌜ Shows (reach (storeProgram rows (now store)) (storeFlow (now store))) (now grid) ⌝ }
+    ensures { λ f. ⌜ f ≡ factsIn (storeProgram rows (now (store .entry))) (storeFlow (now (store .entry))) c ⌝ }
+{
+    let reached = reached_rows(grid, rows);
+    let sends = places(store, rows, Side::Sends, c);
+    let receives = places(store, rows, Side::Receives, c);
+    facts(store, rows, grid, &reached, &sends, &receives)
+}
+
+// Whether a word holds of channel row c.
+pub fn word_holds(store: &[u8], rows: u8, grid: &[u8], c: u8, word: Word) -> bool
+    requires { ⌜ (storeSize ≤ length (now store)) × (rows ≤ rowLimit) × (gridSize ≤ length (now grid)) ⌝ }
+    requires { ⌜ Shows (reach (storeProgram rows (now store)) (storeFlow (now store))) (now grid) ⌝ }
+    ensures { λ b. ⌜ b ≡ wordIn (storeProgram rows (now (store .entry))) (storeFlow (now (store .entry))) c word ⌝ }
+{
+    let found = channel_facts(store, rows, grid, c);
+    says(word, found)
 }
 
 // The four words of channel row c, in the order one-shot, one-to-one, fan-out, fan-in.
 pub fn words(store: &[u8], rows: u8, grid: &[u8], c: u8) -> [bool; 4]
     requires { ⌜ (storeSize ≤ length (now store)) × (rows ≤ rowLimit) × (gridSize ≤ length (now grid)) ⌝ }
-    requires { ⌜ Tells rows (reach (storeProgram rows (now store)) (storeFlow (now store))) (now grid) ⌝ }
-    ensures { λ w. ⌜ (let bytes = now (store .entry) in w ≡ map (wordIn (storeProgram rows bytes) (storeFlow bytes) c) verdictWords) ⌝ }
+    requires { ⌜ Shows (reach (storeProgram rows (now store)) (storeFlow (now store))) (now grid) ⌝ }
+    ensures { λ w. ⌜ w ≡ map (wordIn (storeProgram rows (now (store .entry))) (storeFlow (now (store .entry))) c) verdictWords ⌝ }
 {
-    let reached = reached_rows(grid, rows);
-    let sends = end_of(store, rows, grid, &reached, Side::Sends, c);
-    let receives = end_of(store, rows, grid, &reached, Side::Receives, c);
-    let one_shot = neither(sends.twice, sends.rivals);
-    let one_to_one = neither(sends.rivals, receives.rivals);
-    [one_shot, one_to_one, !sends.rivals, !receives.rivals]
+    let found = channel_facts(store, rows, grid, c);
+    let one_shot = says(Word::OneShot, found);
+    let one_to_one = says(Word::OneToOne, found);
+    let fan_out = says(Word::FanOut, found);
+    let fan_in = says(Word::FanIn, found);
+    [one_shot, one_to_one, fan_out, fan_in]
 }

@@ -1,9 +1,9 @@
 // What walks come to, told by a grid of which rows reach which.
-use crate::marks::meets;
-use crate::marks::three_meet;
 use forms::row_in;
 use program::Form;
 use program::Row;
+use row_marks::meets;
+use row_marks::three_meet;
 use store::Store;
 ghost use mathlib.Core.Path.{_≡_};
 ghost use Prim.Native.Nat.{_*_, _≤_};
@@ -11,8 +11,8 @@ ghost use lib.ListN.{length};
 ghost use Rattle.program.specs.Test.{any};
 ghost use Rattle.format.specs.Limits.{rowLimit};
 ghost use Rattle.store.specs.Rows.{storeProgram};
-ghost use Rattle.reach.specs.Grid.{gridSize};
-ghost use Rattle.verdicts.specs.Marks.{Marked, threeMeet};
+ghost use Rattle.grids.specs.Grid.{gridSize};
+ghost use Rattle.row_marks.specs.RowMarks.{Marked, threeMeet};
 ghost use Rattle.verdicts.specs.Walks.{comesTo, aheadOf, leadsOn, forksOn, rivalsOn};
 
 // The rows that a walk comes to: row 0, and what it reaches.

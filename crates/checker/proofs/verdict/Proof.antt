@@ -1,5 +1,5 @@
 -- `verdict` meets its contract: 20 to 22 of the store, then what its document gives.
-use mathlib.Core.Path.{sym}
+use mathlib.Core.Path.{sym, _∙_}
 use Rattle.checker.proofs.Judges.{verdict-closed, fixed-size, counted, verdict-opened}
 use borrow.Author.Needs.{needs}
 use Rattle.checker.proofs.verdict.Statement.{statement}
@@ -10,6 +10,9 @@ open-requires c κs = search needs
 
 enum-known-refusal : tie.Need-enum-known-refusal
 enum-known-refusal c = search needs
+
+no-verdict-requires : tie.Need-no-verdict-requires
+no-verdict-requires c κs = search needs
 
 enum-known-rows : tie.Need-enum-known-rows
 enum-known-rows c = search needs
@@ -24,7 +27,7 @@ verdict-rows-requires c κs = (
 )
 
 returns : tie.Need-returns
-returns c = verdict-closed _ (rw (c .before .refusal .given .1) at (c .before .before .before .«open» .ensures)) _
+returns c = c .no-verdict .ensures ∙ verdict-closed _ (rw (c .before .before .refusal .given .1) at (c .before .before .before .before .«open» .ensures)) _
 
 returns-2 : tie.Need-returns-2
 returns-2 c = verdict-opened _ _ (rw (c .before .before .before .rows .given .1) at (c .before .before .before .before .before .«open» .ensures)) _ (c .verdict-rows .ensures)
@@ -35,6 +38,7 @@ verdict-spec =
     (tie.spec
     open-requires
     enum-known-refusal
+    no-verdict-requires
     enum-known-rows
     slice-aggregate-verdict-rows
     verdict-rows-requires

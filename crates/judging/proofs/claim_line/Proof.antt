@@ -33,13 +33,25 @@ add-head : tie.Need-add-head
 add-head c = search needs
 
 add-behind : tie.Need-add-behind
-add-behind c = omega (arith, flows-few _ _ (c .before .before .before .before .before .pre .1) (c .before .before .before .before .before .pre .0) (c .before .before .count-sets .ensures))
+add-behind c =
+    let entry = c .before .before .before .before .before in
+    omega (arith, flows-few _ _ (entry .pre .1) (entry .pre .0) (c .before .before .count-sets .ensures))
 
 add-result : tie.Need-add-result
-add-result c = omega (arith, flows-few _ _ (c .before .before .before .before .before .pre .1) (c .before .before .before .before .before .pre .0) (c .before .before .count-sets .ensures), comms-few _ _ (c .before .before .before .before .before .pre .1) (c .before .before .before .before .before .pre .0) (c .count-sets2 .ensures))
+add-result c =
+    let entry = c .before .before .before .before .before in
+    let flows = flows-few _ _ (entry .pre .1) (entry .pre .0) (c .before .before .count-sets .ensures) in
+    let comms = comms-few _ _ (entry .pre .1) (entry .pre .0) (c .count-sets2 .ensures) in
+    omega (arith, flows, comms)
 
 returns : tie.Need-returns
-returns c = (line-is _ _ (c .before .before .before .before .before .pre .1) (c .before .before .before .before .before .pre .0) (c .before .before .count-sets .ensures) (c .count-sets2 .ensures), omega (arith, few-rows _ _ (c .before .before .before .before .before .pre .1), flows-few _ _ (c .before .before .before .before .before .pre .1) (c .before .before .before .before .before .pre .0) (c .before .before .count-sets .ensures), comms-few _ _ (c .before .before .before .before .before .pre .1) (c .before .before .before .before .before .pre .0) (c .count-sets2 .ensures)))
+returns c =
+    let entry = c .before .before .before .before .before in
+    let first = c .before .before .count-sets .ensures in
+    let second = c .count-sets2 .ensures in
+    let flows = flows-few _ _ (entry .pre .1) (entry .pre .0) first in
+    let comms = comms-few _ _ (entry .pre .1) (entry .pre .0) second in
+    (line-is _ _ (entry .pre .1) (entry .pre .0) first second, omega (arith, few-rows _ _ (entry .pre .1), flows, comms))
 
 pub claim-line-spec : {M : Type 1} → statement M
 claim-line-spec =

@@ -29,7 +29,11 @@ no-verdict-requires : tie.Need-no-verdict-requires
 no-verdict-requires c κs = search needs
 
 returns-2 : tie.Need-returns-2
-returns-2 c = rw (c .no-verdict .ensures, c .before .flow-refusal .ensures) (verdict-refused _ _ (c .before .before .before .before .before .before .before .before .pre .1) _ (sym (c .before .before .before .before .before .is-chan .ensures) ∙ c .before .before .before .before .if2 .taken) (c .before .before .before .failing-row .ensures) (c .before .before .if3 .taken))
+returns-2 c =
+    let chan = c .before .before .before .before in
+    rw (c .no-verdict .ensures, c .before .flow-refusal .ensures)
+    (verdict-refused _ _ (chan .before .before .before .before .pre .1) _ (sym (chan .before .is-chan .ensures) ∙ chan .if2 .taken) (c .before .before .before .failing-row .ensures)
+    (c .before .before .if3 .taken))
 
 slice-aggregate-fill-reach : tie.Need-slice-aggregate-fill-reach
 slice-aggregate-fill-reach c = search needs
@@ -41,10 +45,17 @@ slice-aggregate-words : tie.Need-slice-aggregate-words
 slice-aggregate-words c = search needs
 
 words-requires : tie.Need-words-requires
-words-requires c κs = ((omega (arith, c .before .before .before .before .before .before .before .before .before .before .pre .0), few-rows _ _ (c .before .before .before .before .before .before .before .before .before .before .pre .1), search needs), c .before .before .fill-reach .ensures .tells)
+words-requires c κs =
+    let filled = c .before .before in
+    let entry = filled .before .before .before .before .before .before .before .before in
+    ((omega (arith, entry .pre .0), few-rows _ _ (entry .pre .1), search needs), filled .fill-reach .ensures .shows)
 
 returns-3 : tie.Need-returns-3
-returns-3 c = verdict-goes _ _ (c .before .before .before .before .before .before .before .before .before .before .before .pre .1) _ (sym (c .before .before .before .before .before .before .before .before .is-chan .ensures) ∙ c .before .before .before .before .before .before .before .if2 .taken) (c .before .before .before .before .before .before .failing-row .ensures) (c .before .before .before .before .before .if3 .left) (c .words .ensures)
+returns-3 c =
+    let kept = c .before .before .before .before .before in
+    let chan = kept .before .before in
+    verdict-goes _ _ (chan .before .before .before .before .pre .1) _ (sym (chan .before .is-chan .ensures) ∙ chan .if2 .taken) (kept .before .failing-row .ensures) (kept .if3 .left)
+    (c .words .ensures)
 
 not-a-channel-requires-2 : tie.Need-not-a-channel-requires-2
 not-a-channel-requires-2 c κs = search needs

@@ -1,10 +1,11 @@
 -- Warshall's rounds: their grid is transitive through the rows below k, and has nothing that the first grid does not lead to.
 use Prim.Native.Nat.{ℕ, zero, suc, _+_, _-_, _≤_, _<_}
-use mathlib.Core.Bool.{Bool, true, false, _&&_, _||_, So, or-false}
+use mathlib.Core.Bool.{Bool, true, false, _&&_, _||_, So, or-false, and-false}
 use mathlib.Core.List.{List, [], _∷_}
 use mathlib.Core.Path.{_≡_, refl, sym, _∙_, ap}
 use mathlib.Core.Logic.{_⊎_, inl, inr, ⊎-elim}
 use native.Mathlib.Omega.{arith}
+use native.Mathlib.Decide.{decLt}
 use native.Mathlib.Nat.{zero-add, add-zero, suc-add, add-suc}
 use lib.ListN.{getD, List·getD-map}
 use Rattle.program.specs.Closure.{Grid, cell, table, join, through, closure, grid, closed}
@@ -91,12 +92,25 @@ unfolding cell grid
 grid-cell n f r s l m = rw table-at (table-at n (f r) [] s false m)
 
 -- nothing is reached from a row past the last
-closure-past : (n : ℕ) (f : ℕ → ℕ → Bool) (k r s : ℕ) → n ≤ r → cell (closure k (grid n f)) r s ≡ false
+pub closure-past : (n : ℕ) (f : ℕ → ℕ → Bool) (k r s : ℕ) → n ≤ r → cell (closure k (grid n f)) r s ≡ false
 unfolding closure cell grid
 closure-past n f zero r s l =
     let q : r ≡ n + (r - n) = omega arith in
     rw (q, table-past n (λ r. table n (f r) []) [] (r - n) [])
 closure-past n f (suc k) r s l = cell-through k (closure k (grid n f)) r s ∙ rw (closure-past n f k r s l, closure-past n f k r k l)
+
+-- and no row past the last is reached
+pub closure-beside : (n : ℕ) (f : ℕ → ℕ → Bool) (k r s : ℕ) → n ≤ s → cell (closure k (grid n f)) r s ≡ false
+unfolding closure cell grid
+closure-beside n f zero r s l =
+    let q : s ≡ n + (s - n) = omega arith in
+    elim (decLt r n) [
+      | yes m ↦ rw (table-at n (λ r. table n (f r) []) [] r [] m, q, table-past n (f r) [] (s - n) false)
+      | no m ↦ closure-past n f 0 r s (omega arith)
+    ]
+closure-beside n f (suc k) r s l =
+    cell-through k (closure k (grid n f)) r s
+    ∙ rw (closure-beside n f k r s l, closure-beside n f k k s l) (and-false (cell (closure k (grid n f)) r k))
 
 pub closed-past : (n : ℕ) (f : ℕ → ℕ → Bool) (r s : ℕ) → n ≤ r → closed n f r s ≡ false
 unfolding closed

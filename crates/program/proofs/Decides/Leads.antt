@@ -25,7 +25,7 @@ use Rattle.program.proofs.WellFormed.{WellFormed}
 
 module _ (p : Program) (flow : Table) where
   -- a test that tells which rows of the program are reached from which
-  pub record Tells (reach : ℕ → ℕ → Bool) : Type 0 where
+  pub record TellsReach (reach : ℕ → ℕ → Bool) : Type 0 where
     pub sound : (r s : ℕ) → r < length p → s < length p → So (reach r s) → Reaches p flow r s
     pub complete : (r s : ℕ) → r < length p → Reaches p flow r s → So (reach r s)
 
@@ -33,7 +33,7 @@ pub fork-row : (p : Program) (r t rest : ℕ) → forkAt p r ≡ some (t, rest) 
 unfolding forkAt
 fork-row p r t rest e = found-at {P = λ x. r < length p} e (found-bind (found-self (bindAt p r)) λ b at. found-bind (found-self (spawnOf (b .form))) λ t _. found (bind-bound p r b at))
 
-module _ (p : Program) (well : WellFormed p) (flow : Table) (rows : 0 < length p) (reach : ℕ → ℕ → Bool) (tells : Tells p flow reach) where
+module _ (p : Program) (well : WellFormed p) (flow : Table) (rows : 0 < length p) (reach : ℕ → ℕ → Bool) (tells : TellsReach p flow reach) where
   -- a walk stays in the program
   pub walk-bound : (w : Walk) → IsWalk p flow w → lastRow w < length p
   unfolding IsWalk lastRow

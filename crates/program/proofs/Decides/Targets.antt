@@ -12,9 +12,9 @@ use Rattle.program.specs.declared.Bind.{Bind}
 use Rattle.program.specs.declared.Form.{Form}
 use Rattle.program.specs.Flow.{row, Table}
 use Rattle.program.specs.Maybe.{has}
-use Rattle.program.specs.Program.{Program, bindAt, formAt, funAt, forkAt, caseOf, applyOf, rowsOf, pointers}
+use Rattle.program.specs.Program.{Program, bindAt, formAt, funAt, forkAt, caseOf, applyOf, leftAt, rightAt, rowsOf, pointers}
 use Rattle.program.specs.Test.{any}
-use Rattle.program.specs.Walk.{someCalled, toRest, toChild, toCalled, toCaller, edge}
+use Rattle.program.specs.Walk.{Sides, always, enters, someCalled, toRest, toChild, toCalled, toCaller, edge}
 use Rattle.program.specs.Each.{Each, nil, _&_}
 use Rattle.program.proofs.Each.{each-imp, each-left}
 use Rattle.program.proofs.Maybe.{Found, found, found-self, found-bind, found-at, found-map, has-elim}
@@ -55,17 +55,19 @@ module _ (p : Program) (well : WellFormed p) where
       two t w (h & (k & nil)) = (h, k)
 
   module _ (flow : Table) where
-    called-bound : (q : ℕ) (f : ℕ → Bool) → So (someCalled p flow q f) → (t : ℕ) × (t < length p) × So (f t)
+    called-bound : (counts : Sides) (q : ℕ) (f : ℕ → Bool) → So (someCalled p flow counts q f) → (t : ℕ) × (t < length p) × So (f t)
     unfolding someCalled
-    called-bound q f h =
+    called-bound counts q f h =
         let (k, e, i) = has-elim _ (formAt p q) h in
         ⊎-elim (branch k e) (apply k) (or-cases _ _ i)
       where
-        branch : (k : Form) → formAt p q ≡ some k → So (has (caseOf k) (λ (s, x, t, y, w). f t || f w)) → (t : ℕ) × (t < length p) × So (f t)
+        branch : (k : Form) → formAt p q ≡ some k → So (has (caseOf k) (λ (s, x, t, y, w). (counts s (leftAt p) && f t) || (counts s (rightAt p) && f w)))
+            → (t : ℕ) × (t < length p) × So (f t)
         branch k e i =
             let ((s, x, t, y, w), c, j) = has-elim _ (caseOf k) i in
             let (l, m) = found-at c (branches-bound q k e) in
-            ⊎-elim (λ a. (t, l, a)) (λ a. (w, m, a)) (or-cases (f t) (f w) j)
+            ⊎-elim (λ a. (t, l, and-right (counts s (leftAt p)) (f t) a)) (λ a. (w, m, and-right (counts s (rightAt p)) (f w) a))
+            (or-cases (counts s (leftAt p) && f t) _ j)
 
         apply : (k : Form) → So (has (applyOf k) (λ (g, a). any (length p) λ s. flow g (row s) && has (funAt p s) (λ (h, x, t). f t))) → (t : ℕ) × (t < length p) × So (f t)
         apply k i =
@@ -96,7 +98,7 @@ module _ (p : Program) (well : WellFormed p) where
         child i = let ((t, rest), e, j) = has-elim _ (forkAt p r) i in rw (eqb-true s t j) (found-at e (fork-bound r))
 
         called : So (toCalled p flow r s) → s < length p
-        called i = let (t, l, j) = called-bound r (eqb s) i in rw (eqb-true s t j) l
+        called i = let (t, l, j) = called-bound (enters p flow) r (eqb s) i in rw (eqb-true s t j) l
 
         caller : So (toCaller p flow r s) → s < length p
         caller i =

@@ -13,10 +13,10 @@ use Rattle.program.specs.Program.{Program, forkAt}
 use Rattle.program.specs.Snoc.{_▷_, Begins, Continues, Ordered}
 use Rattle.program.specs.Test.{any}
 use Rattle.program.specs.Topology.{Fits, EveryTwo}
-use Rattle.program.specs.Verdict.{reach, reached, leads, inARow, rivals, verdict}
+use Rattle.program.specs.Verdict.{reach, says, reached, leads, inARow, rivals, ends, facts, verdict}
 use Rattle.program.specs.Walk.{Walk, lastRow, edge, IsWalk, Parted, CanShare, EndsAt, Holds}
 use Rattle.program.proofs.Decides.Closure.{closed-sound, closed-complete}
-use Rattle.program.proofs.Decides.Leads.{Tells, fork-row, walk-bound, walk-reached, reached-walk, leads-to, from-lead}
+use Rattle.program.proofs.Decides.Leads.{TellsReach, fork-row, walk-bound, walk-reached, reached-walk, leads-to, from-lead}
 use Rattle.program.proofs.Decides.Reach.{walk-on, walk-between}
 use Rattle.program.proofs.Decides.Targets.{edge-bound}
 use Rattle.program.proofs.Maybe.{has-intro, has-elim}
@@ -38,7 +38,7 @@ pub record Comes (p : Program) (flow : Table) (comes : ℕ → Bool) (Shared : W
   pub walk : (r : ℕ) → r < length p → So (comes r) → (w : Walk) × IsWalk p flow w × (lastRow w ≡ r) × Shared w
   pub row : (w : Walk) → IsWalk p flow w → Shared w → So (comes (lastRow w))
 
-module _ (p : Program) (well : WellFormed p) (flow : Table) (rows : 0 < length p) (reach : ℕ → ℕ → Bool) (tells : Tells p flow reach)
+module _ (p : Program) (well : WellFormed p) (flow : Table) (rows : 0 < length p) (reach : ℕ → ℕ → Bool) (tells : TellsReach p flow reach)
     (judged : Walk → Walk → Type 0) (Shared : Walk → Type 0) (judges : Judges p judged Shared) (comes : ℕ → Bool) (come : Comes p flow comes Shared) where
   module _ (places : ℕ → Bool) where
     -- walks that part and end at places
@@ -48,7 +48,9 @@ module _ (p : Program) (well : WellFormed p) (flow : Table) (rows : 0 < length p
         let common : IsWalk p flow (h .common) = walk-begins p flow (h .common ▷ h .child) x (i .0) (h .first) .0 in
         any-intro _ (lastRow (h .common)) (fork-row p (lastRow (h .common)) (h .child) (h .rest) (h .forks))
         (and-intro (come .row (h .common) common (judges .parted x y h .0 j))
-        (has-intro _ (h .forks) (and-intro (leads-to p well flow rows reach tells places (h .common) x (h .child) i (h .first)) (leads-to p well flow rows reach tells places (h .common) y (h .rest) k (h .second)))))
+        (has-intro _ (h .forks) (and-intro
+        (leads-to p well flow rows reach tells places (h .common) x (h .child) i (h .first))
+        (leads-to p well flow rows reach tells places (h .common) y (h .rest) k (h .second)))))
 
     rivals-walks : So (rivals p reach comes places) → (x : Walk) × (y : Walk) × Parted p x y × judged x y × EndsAt p flow places x × EndsAt p flow places y
     unfolding rivals IsWalk
@@ -122,7 +124,7 @@ module _ (p : Program) (well : WellFormed p) (flow : Table) (rows : 0 < length p
             parted-apart p well x y d (inl (begins-eq (h x y j i k))))
 
   pub verdict-iff : (word : Word) (sends receives : ℕ → Bool) → So (verdict p reach comes word sends receives) ↔ Holds p flow judged word sends receives
-  unfolding verdict Holds Fits
+  unfolding verdict says facts ends Holds Fits
   verdict-iff OneShot sends receives = same-iff sends
   verdict-iff OneToOne sends receives =
       (λ h. (ordered-iff sends .0 (search and-left), ordered-iff receives .0 (search and-right)), λ (h, k). and-intro (ordered-iff sends .1 h) (ordered-iff receives .1 k))
@@ -131,7 +133,7 @@ module _ (p : Program) (well : WellFormed p) (flow : Table) (rows : 0 < length p
   verdict-iff Many sends receives = (λ h. tt, λ h. refl)
 
 -- the grid tells
-pub reach-tells : (p : Program) → WellFormed p → (flow : Table) → Tells p flow (reach p flow)
+pub reach-tells : (p : Program) → WellFormed p → (flow : Table) → TellsReach p flow (reach p flow)
 unfolding reach
 reach-tells p well flow = record { sound = closed-sound (length p) (edge p flow); complete = closed-complete (length p) (edge p flow) (edge-bound p well flow) }
 

@@ -154,4 +154,5 @@ pub claims-hold : (p : Program) (flow comm : Table) → WellFormed p → So (kee
 claims-hold p flow comm well keeps word n c chan holds ss maker =
     let r = run-good p well flow comm keeps ss in
     let shares = member-shares p well flow (r .traced) (r .traces) in
-    rw (r .same) at (instance-fits p well flow (r .traced) (r .traces) n c chan maker (CanShare p) (λ x y a b. shares (a .0) (b .0) (a .1) (b .1)) (λ x y a b. shares (a .0) (b .0) (a .1) (b .1)) word holds)
+    rw (r .same) at (instance-fits p well flow (r .traced) (r .traces) n c chan maker (CanShare p)
+    (λ x y a b. shares (a .0) (b .0) (a .1) (b .1)) (λ x y a b. shares (a .0) (b .0) (a .1) (b .1)) word holds)

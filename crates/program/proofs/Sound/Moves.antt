@@ -14,11 +14,11 @@ use Rattle.program.specs.Flow.{u, row, Table, lies, forEach, keepsForm, 
 use Rattle.program.specs.Maybe.{_>>=_, when}
 use Rattle.program.specs.Program.{Program, rowAt, bindAt, nameOf, chanAt, forkAt, pairAt, leftAt, rightAt, funAt, resultName}
 use Rattle.program.specs.Run.{next, spawn, Path, made, Value, unit, channel, closure, Env, extend, lookup, closureAt, Return, State, Move, proceed, enter, start, formMoves, resultMoves, moves}
-use Rattle.program.specs.Walk.{plain}
+use Rattle.program.specs.Walk.{plain, enters}
 use Rattle.program.specs.Each.{Each, nil, _&_}
 use Rattle.program.proofs.Each.{EachTwo}
 use Rattle.program.proofs.Maybe.{Found, nothing, found, found-self, found-bind, found-both, found-either, found-when}
-use Rattle.program.proofs.Sound.Edges.{Calls, form-at, edge-child, calls-left, calls-right, calls-body}
+use Rattle.program.proofs.Sound.Edges.{Calls, entered, form-at, edge-child, calls-left, calls-right, calls-body}
 use Rattle.program.proofs.Sound.Result.{by-row, result-of-result}
 use Rattle.program.proofs.Sound.Shape.{bind-bound, row-of}
 use Rattle.program.proofs.Sound.States.{rule-of, fun-own, CoversReturns, Covers, Sound, proceed-sound, enter-sound}
@@ -46,7 +46,8 @@ module _ (p : Program) (flow : Table) (st : State) where
   one-legal : (m : Move) → Sound p flow st m → Legal (m ∷ [])
   one-legal m h = record { sound = h & nil; forked = (inl refl & nil) & nil }
 
-module _ (p : Program) (well : WellFormed p) (flow comm : Table) (keeps : So (keepsAll p flow comm)) (path : Path) (st : State) (c : Covers p flow st) (b : Bind) (at : bindAt p (st .row) ≡ some b) where
+module _ (p : Program) (well : WellFormed p) (flow comm : Table) (keeps : So (keepsAll p flow comm))
+    (path : Path) (st : State) (c : Covers p flow st) (b : Bind) (at : bindAt p (st .row) ≡ some b) where
   -- on with a value; one that another name has; a value row's own
   on-with : So (plain (b .form)) → (v : Value) → Covered p flow (b .name) v → Found (Legal p flow st) (some (proceed st b v ∷ []))
   on-with h v k = found (one-legal p flow st (proceed st b v) (proceed-sound p well flow st b at c h v k))
@@ -59,7 +60,7 @@ module _ (p : Program) (well : WellFormed p) (flow comm : Table) (keeps : So (ke
   on-with-own h m = on-with h (closure (st .row) (st .env)) (m, (bind-bound p (st .row) b at, c .env))
 
   -- into a branch or a body, one more name having a value
-  into : (t : ℕ) → Calls p flow (st .row) t → So (lies p (flow (resultName p t)) (flow (b .name))) → (env : Env) → CoversEnv p flow env
+  into : (t : ℕ) → Calls p flow (enters p flow) (st .row) t → So (lies p (flow (resultName p t)) (flow (b .name))) → (env : Env) → CoversEnv p flow env
       → Found (Legal p flow st) (some (enter st b t env ∷ []))
   into t calls l env k = found (one-legal p flow st (enter st b t env) (enter-sound p well flow st b at c t calls l env k))
 
@@ -87,14 +88,14 @@ module _ (p : Program) (well : WellFormed p) (flow comm : Table) (keeps : So (ke
       on-with-lying h (part xy) lie v covered
 
   -- a branch of a case
-  branch-legal : (o : Option ℕ) (x t : ℕ) → Calls p flow (st .row) t
+  branch-legal : (o : Option ℕ) (x t : ℕ) → ((a : ℕ) → o ≡ some a → Calls p flow (enters p flow) (st .row) t)
       → So (when o λ a. lies p (flow a) (flow x) && lies p (flow (resultName p t)) (flow (b .name)))
       → (env : Env) → CoversEnv p flow env
       → Found (Legal p flow st) (o >>= λ a. lookup env a >>= λ v. some (enter st b t (extend (st .env) x v) ∷ []))
   branch-legal o x t calls rule env k =
-      found-bind (found-when _ o rule) λ a lie.
+      found-bind (found-both (found-self o) (found-when _ o rule)) λ a (e, lie).
       found-bind (lookup-covered p flow env a k) λ v (m, h).
-      into t calls (search and-right) (extend (st .env) x v) (c .env, (lies-elim p flow (flow a) (flow x) (search and-left) v h m, h))
+      into t (calls a e) (search and-right) (extend (st .env) x v) (c .env, (lies-elim p flow (flow a) (flow x) (search and-left) v h m, h))
 
   case-legal : (s x t y w : ℕ) → b .form ≡ Case s x t y w → So (keepsForm p flow comm (st .row) (b .name) (Case s x t y w))
       → Found (Legal p flow st) (formMoves p path st b (Case s x t y w))
@@ -103,8 +104,10 @@ module _ (p : Program) (well : WellFormed p) (flow comm : Table) (keeps : So (ke
       let form = form-at p (st .row) b (Case s x t y w) at q in
       found-bind (closure-covered p flow (st .env) s (c .env)) λ (r, env) (m, l, k).
       let both = each-elim p (flow s) _ rule r l m in
-      found-either (branch-legal (leftAt p r) x t (calls-left p flow (st .row) s x t y w form) (search and-left) env k)
-      (branch-legal (rightAt p r) y w (calls-right p flow (st .row) s x t y w form) (search and-right) env k)
+      let fed : (side : ℕ → Option ℕ) (a : ℕ) → side r ≡ some a → So (enters p flow s side) = λ side a e. entered p flow s r a side l m e in
+      found-either
+      (branch-legal (leftAt p r) x t (λ a e. calls-left p flow (enters p flow) (st .row) s x t y w form (fed (leftAt p) a e)) (search and-left) env k)
+      (branch-legal (rightAt p r) y w (λ a e. calls-right p flow (enters p flow) (st .row) s x t y w form (fed (rightAt p) a e)) (search and-right) env k)
 
   apply-legal : (f a : ℕ) → b .form ≡ Apply f a → So (keepsForm p flow comm (st .row) (b .name) (Apply f a))
       → Found (Legal p flow st) (formMoves p path st b (Apply f a))
@@ -113,7 +116,7 @@ module _ (p : Program) (well : WellFormed p) (flow comm : Table) (keeps : So (ke
       found-bind (closure-covered p flow (st .env) f (c .env)) λ (r, env) (m, l, k).
       found-bind (found-both (found-self (funAt p r)) (found-both (fun-own p flow comm keeps r) (found-when _ (funAt p r) (each-elim p (flow f) _ rule r l m)))) λ (g, x, t) (fun, (own, lie)).
       found-bind (lookup-covered p flow (st .env) a (c .env)) λ v (i, h).
-      into t (calls-body p flow (st .row) f a r g x t (form-at p (st .row) b (Apply f a) at q) l m fun) (search and-right)
+      into t (calls-body p flow (enters p flow) (st .row) f a r g x t (form-at p (st .row) b (Apply f a) at q) l m fun) (search and-right)
       (extend (extend env g (closure r env)) x v) ((k, (own, (l, k))), (lies-elim p flow (flow a) (flow x) (search and-left) v h i, h))
 
   form-legal : (f : Form) → b .form ≡ f → So (keepsForm p flow comm (st .row) (b .name) f) → Found (Legal p flow st) (formMoves p path st b f)

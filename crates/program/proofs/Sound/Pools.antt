@@ -7,7 +7,8 @@ use Rattle.program.specs.declared.Bind.{Bind}
 use Rattle.program.specs.Each.{Member, Each, nil, _&_}
 use Rattle.program.specs.Maybe.{_>>=_, given, provided}
 use Rattle.program.specs.Program.{Program, bindAt}
-use Rattle.program.specs.Run.{Path, sameLabel, Instance, sameInstance, State, Move, Thread, Pool, next, Value, unit, empty, proceed, moves, offer, receivesOn, stateOf, leaf, leafState, lengthen, Step, own, meet, added, step, after, startPool, run}
+use Rattle.program.specs.Run.{Path, sameLabel, Instance, sameInstance, State, Move, Thread, Pool, next, Value, unit, empty, proceed, moves, offer, receivesOn}
+use Rattle.program.specs.Run.{stateOf, leaf, leafState, lengthen, Step, own, meet, added, step, after, startPool, run}
 use Rattle.program.specs.Snoc.{ε, Snoc-discrete, Continues, continues?}
 use Rattle.program.specs.Walk.{Walk, lastRow}
 use Rattle.program.proofs.Each.{EachTwo, every-elim, each-at, each-member, each-imp, each-both, each-append, each-map, each-unmap, each-all, every-two-append}

@@ -10,9 +10,9 @@ use Rattle.program.specs.declared.Form.the-variants.{Fun}
 use Rattle.program.specs.Flow.{row, Table, lies, keepsForm, keepsAt, keepsAll}
 use Rattle.program.specs.Program.{Program, rowAt, bindAt, formAt, funAt, nameOf, resultRow, resultName}
 use Rattle.program.specs.Run.{Value, Env, Return, State, Move, proceed, enter}
-use Rattle.program.specs.Walk.{plain, edge}
+use Rattle.program.specs.Walk.{plain, enters, edge}
 use Rattle.program.proofs.Maybe.{Found, found, found-at, found-when, found-self, found-bind, found-map}
-use Rattle.program.proofs.Sound.Edges.{Calls, edge-rest, edge-call, edge-return}
+use Rattle.program.proofs.Sound.Edges.{Calls, calls-always, edge-rest, edge-call, edge-return}
 use Rattle.program.proofs.Sound.Forms.{fun-form}
 use Rattle.program.proofs.Sound.Result.{result-of-bind}
 use Rattle.program.proofs.Sound.Shape.{bind-bound}
@@ -65,10 +65,10 @@ module _ (p : Program) (well : WellFormed p) (flow : Table) (st : State) (b : Bi
   unfolding proceed
   proceed-sound h v k = record { steps = edge-rest p flow (st .row) b at h; covers = record { env = (c .env, k); returns = returns-of-rest } }
 
-  pub enter-sound : (t : ℕ) → Calls p flow (st .row) t → So (lies p (flow (resultName p t)) (flow (b .name))) → (env : Env) → CoversEnv p flow env
+  pub enter-sound : (t : ℕ) → Calls p flow (enters p flow) (st .row) t → So (lies p (flow (resultName p t)) (flow (b .name))) → (env : Env) → CoversEnv p flow env
       → Sound p flow st (enter st b t env)
   unfolding enter resultName
   enter-sound t calls l env k = record {
     steps = edge-call p flow (st .row) t calls;
-    covers = record { env = k; returns = (edge-return p flow (st .row) t b at calls, l, c .env, returns-of-rest) };
+    covers = record { env = k; returns = (edge-return p flow (st .row) t b at (calls-always p flow (enters p flow) (st .row) t calls), l, c .env, returns-of-rest) };
   }

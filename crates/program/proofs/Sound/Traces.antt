@@ -86,7 +86,14 @@ module _ (p : Program) where
   divide : (t : Traced) (m₁ m₂ : Move) → Level t → Splits p (t .state) m₁ m₂ → Divided p (child t m₁) (child t m₂)
   unfolding child
   divide t m₁ m₂ g (e, d) = record {
-    walks = record { common = t .walk; child = m₁ .state .row; rest = m₂ .state .row; forks = rw (g .ends) e; first = begins-refl (t .walk ▷ m₁ .state .row); second = begins-refl (t .walk ▷ m₂ .state .row) };
+    walks = record {
+      common = t .walk;
+      child = m₁ .state .row;
+      rest = m₂ .state .row;
+      forks = rw (g .ends) e;
+      first = begins-refl (t .walk ▷ m₁ .state .row);
+      second = begins-refl (t .walk ▷ m₂ .state .row);
+    };
     path = t .path;
     label₁ = m₁ .label;
     label₂ = m₂ .label;

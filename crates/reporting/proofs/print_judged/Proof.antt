@@ -1,4 +1,4 @@
--- What judging a store asks for, and what its grid tells where the store is accepted.
+-- What judging a store asks for, and what its grid shows where the store is accepted.
 use native.Mathlib.Omega.{arith}
 use mathlib.Core.Path.{sym}
 use Rattle.judging.proofs.Documents.{few-rows}
@@ -71,7 +71,7 @@ print-channels-requires c κs =
             (past8 .before .before .before .before .before .before .before .before .«open» .ensures))),
         search needs,
       ),
-      past8 .before .before .judge-store .ensures .grid-tells _ (c .before .before .before .before .before .before .before .claims .given .1),
+      past8 .before .before .judge-store .ensures .grid-shows _ (c .before .before .before .before .before .before .before .claims .given .1),
     )
 
 returns : tie.Need-returns

@@ -8,7 +8,7 @@ use borrow.Author.Needs.{needs}
 use Rattle.format.specs.Limits.{rowLimit}
 use Rattle.store.specs.Rows.{storeProgram}
 use Rattle.reach.specs.Edges.{bodyResult}
-use Rattle.reach.proofs.Rows.{filled-more}
+use Rattle.grids.proofs.Keeping.{filled-more}
 use Rattle.reach.proofs.edges.body_results.Statement.{statement}
 use Rattle.reach.proofs.edges.body_results.Tie as tie
 
@@ -38,7 +38,16 @@ loop-less : tie.Need-loop-less Inv-loop μ-loop
 loop-less c = omega arith
 
 loop-again : tie.Need-loop-again Inv-loop μ-loop
-loop-again c = (omega arith, (simp length-set (c .before .before .loop .inv .1 .0), rw (c .body-result .ensures) (filled-more (bodyResult (storeProgram (c .before .before .before .before .args .rows) (now (c .before .before .before .before .args .store)))) (c .before .before .loop .k) (c .before .before .loop .results) (omega arith) (c .before .before .loop .inv .1 .1))))
+loop-again c =
+    let args = c .before .before .before .before .args in
+    let here = c .before .before .loop in (
+      omega arith,
+      (
+        simp length-set (here .inv .1 .0),
+        rw (c .body-result .ensures)
+            (filled-more (bodyResult (storeProgram (args .rows) (now (args .store)))) (here .k) (here .results) (omega arith) (here .inv .1 .1)),
+      ),
+    )
 
 returns : tie.Need-returns Inv-loop μ-loop
 returns c = record { at = λ k l. c .before .loop .inv .1 .1 k (omega arith) }

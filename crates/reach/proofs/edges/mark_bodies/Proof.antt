@@ -8,14 +8,14 @@ use Rattle.program.specs.Test.{any}
 use Rattle.store.specs.Rows.{storeProgram}
 use Rattle.tables.specs.Tables.{storeFlow}
 use Rattle.reach.specs.Edges.{bodySteps, anyBody}
-use Rattle.reach.specs.Grid.{Adds}
-use Rattle.reach.proofs.Marks.{adds-none, adds-next}
+use Rattle.grids.specs.Grid.{AddsPairs}
+use Rattle.grids.proofs.Adding.{adds-none, adds-next}
 use Rattle.reach.proofs.edges.mark_bodies.Statement.{statement}
 use Rattle.reach.proofs.edges.mark_bodies.Tie as tie
 
 abbrev Inv-loop : tie.InvT-loop
 Inv-loop store rows results grid₀ q rest f k₀ grid k =
-    (k ≤ rows) × ((length grid ≡ length grid₀) × Adds rows (anyBody (storeProgram rows store) (storeFlow store) q rest f k) grid₀ grid)
+    (k ≤ rows) × ((length grid ≡ length grid₀) × AddsPairs rows (anyBody (storeProgram rows store) (storeFlow store) q rest f k) grid₀ grid)
 
 abbrev μ-loop : tie.MeasureT-loop
 μ-loop store rows results grid₀ q rest f k₀ grid k = rows - k
@@ -35,7 +35,10 @@ loop-less c = search needs
 
 loop-again : tie.Need-loop-again Inv-loop μ-loop
 unfolding anyBody
-loop-again c = (omega arith, (c .before .before .mark-body .ensures .kept .same-length ∙ c .before .before .before .before .before .loop .inv .1 .0, adds-next (λ k r s. bodySteps _ _ _ _ _ k r s) _ (c .before .before .before .before .before .loop .inv .1 .1) (c .before .before .mark-body .ensures)))
+loop-again c =
+    let h = c .before .before .before .before .before .loop .inv .1 in
+    let m = c .before .before .mark-body .ensures in
+    (omega arith, (m .kept .same-length ∙ h .0, adds-next (λ k r s. bodySteps _ _ _ _ _ k r s) _ (h .1) m))
 
 same-length : tie.Need-same-length Inv-loop μ-loop
 same-length c = c .before .loop .inv .1 .0

@@ -13,7 +13,8 @@ use Rattle.reach.specs.Edges.{kindCalled}
 use Rattle.reach.specs.declared.edges.Kind.the-variants.{End, Next, Body, Fork, Branch, Call}
 use Rattle.reach.specs.declared.edges.Kind.{Kind}
 use Rattle.reach.proofs.edges.Kind.{the-type}
-use Rattle.reach.proofs.Marks.{adds-none, adds-as, body-out, body-none, body-in}
+use Rattle.grids.proofs.Adding.{adds-none, adds-as}
+use Rattle.reach.proofs.Giving.{body-out, body-none, body-in}
 use Rattle.reach.proofs.edges.mark_body.Statement.{statement}
 use Rattle.reach.proofs.edges.mark_body.Tie as tie
 
@@ -24,7 +25,7 @@ no-body p q rest End n r s = refl
 no-body p q rest (Next rest′) n r s = refl
 no-body p q rest (Body t rest′) n r s = absurd (n refl)
 no-body p q rest (Fork t rest′) n r s = refl
-no-body p q rest (Branch t w rest′) n r s = refl
+no-body p q rest (Branch k t w rest′) n r s = refl
 no-body p q rest (Call f rest′) n r s = refl
 
 not-two : (x : ℕ) → OneOf (0 ∷ 1 ∷ 3 ∷ 4 ∷ 5 ∷ []) x → x ≡ 2 → ⊥
@@ -62,7 +63,13 @@ same-length : tie.Need-same-length
 same-length c = search needs
 
 returns-3 : tie.Need-returns-3
-returns-3 c = adds-as (body-in _ _ _ _ _ _ (λ e. c .before .before .before .before .before .before .before .before .before .if1 .left (c .before .before .before .before .before .before .before .before .before .before .flow-flag .ensures ∙ e)) (sym (c .before .before .before .before .before .before .before .before .kind-at .ensures) ∙ c .before .before .before .before .before .before .body .given .1) (c .before .before .before .before .byte-at .ensures ∙ c .before .before .before .before .before .before .before .before .before .before .before .before .before .before .pre .1 .at _ (c .before .before .before .before .before .before .before .before .before .before .before .before .before .before .pre .0 .2))) (c .before .before .mark-call .ensures)
+returns-3 c =
+    let found = c .before .before .before .before .before .before in
+    let member = found .before .before .before in
+    let entry = member .before .before .before .before .before in
+    adds-as (body-in _ _ _ _ _ _ (λ e. member .if1 .left (member .before .flow-flag .ensures ∙ e)) (sym (found .before .before .kind-at .ensures) ∙ found .body .given .1)
+    (c .before .before .before .before .byte-at .ensures ∙ entry .pre .1 .at _ (entry .pre .0 .2)))
+    (c .before .before .mark-call .ensures)
 
 pub mark-body-spec : {M : Type 1} → statement M
 mark-body-spec =

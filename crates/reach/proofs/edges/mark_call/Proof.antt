@@ -1,7 +1,7 @@
 -- `mark_call` meets its contract: two marks, one after the other.
 use borrow.Author.Needs.{needs}
 use Rattle.reach.specs.Edges.{callSteps}
-use Rattle.reach.proofs.Marks.{adds-then}
+use Rattle.grids.proofs.Adding.{adds-then}
 use Rattle.reach.proofs.edges.mark_call.Statement.{statement}
 use Rattle.reach.proofs.edges.mark_call.Tie as tie
 

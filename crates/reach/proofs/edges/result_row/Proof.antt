@@ -37,7 +37,9 @@ loop-less : tie.Need-loop-less Inv-loop μ-loop
 loop-less c = search needs
 
 loop-again : tie.Need-loop-again Inv-loop μ-loop
-loop-again c = sym (result-next _ _ _ (c .before .before .before .before .loop-test .taken) (sym (c .before .before .before .row-in .ensures) ∙ c .before .b .given .1)) ∙ c .before .before .before .before .before .loop .inv
+loop-again c =
+    let row = c .before .before .before in
+    sym (result-next _ _ _ (row .before .loop-test .taken) (sym (row .row-in .ensures) ∙ c .before .b .given .1)) ∙ row .before .before .loop .inv
 
 returns-2 : tie.Need-returns-2 Inv-loop μ-loop
 returns-2 c = sym (result-none _ _ _ (c .loop-test .left)) ∙ c .before .loop .inv ∙ result-steps _ _ _

@@ -35,11 +35,17 @@ leads-requires-2 c κs = search needs
 
 returns-3 : tie.Need-returns-3
 unfolding forksOn has _>>=_
-returns-3 c = rw (fork-bind _ _ (sym (c .before .before .before .before .before .before .before .before .before .row-in .ensures) ∙ c .before .before .before .before .before .before .before .b .given .1), c .before .before .before .before .form .given .1, ← (c .before .before .leads .ensures), c .before .if1 .taken) (c .leads2 .ensures)
+returns-3 c =
+    let bind = c .before .before .before .before .before .before .before in
+    let is-bind = sym (bind .before .before .row-in .ensures) ∙ bind .b .given .1 in
+    rw (fork-bind _ _ is-bind, c .before .before .before .before .form .given .1, ← (c .before .before .leads .ensures), c .before .if1 .taken) (c .leads2 .ensures)
 
 returns-4 : tie.Need-returns-4
 unfolding forksOn has _>>=_
-returns-4 c = rw (fork-bind _ _ (sym (c .before .before .before .before .before .before .before .before .row-in .ensures) ∙ c .before .before .before .before .before .before .b .given .1), c .before .before .before .form .given .1, ← (c .before .leads .ensures), c .if1 .left)
+returns-4 c =
+    let bind = c .before .before .before .before .before .before in
+    let is-bind = sym (bind .before .before .row-in .ensures) ∙ bind .b .given .1 in
+    rw (fork-bind _ _ is-bind, c .before .before .before .form .given .1, ← (c .before .leads .ensures), c .if1 .left)
 
 pub forks-spec : {M : Type 1} → statement M
 forks-spec =

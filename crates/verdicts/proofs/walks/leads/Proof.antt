@@ -1,6 +1,6 @@
 -- `leads` meets its contract: no such row, a place, or one ahead.
 use borrow.Author.Tests.{lt-ltb, le-ltb}
-use Rattle.verdicts.specs.Marks.{on}
+use Rattle.row_marks.specs.RowMarks.{on}
 use Rattle.verdicts.specs.Walks.{leadsOn}
 use borrow.Author.Needs.{needs}
 use Rattle.verdicts.proofs.walks.leads.Statement.{statement}

@@ -2,8 +2,9 @@
 use Prim.Native.Nat.{_≤_, _-_}
 use native.Mathlib.Omega.{arith}
 use mathlib.Core.Path.{_≡_, refl}
-use Rattle.verdicts.specs.Marks.{on, Marked}
-use Rattle.verdicts.proofs.Marking.{marked-none, marked-more, marked-first}
+use Rattle.row_marks.specs.RowMarks.{on, Marked}
+use Rattle.row_marks.proofs.Marking.{marked-none, marked-more}
+use Rattle.verdicts.proofs.Walking.{marked-first}
 use borrow.Author.Needs.{needs}
 use Rattle.verdicts.proofs.walks.reached_rows.Statement.{statement}
 use Rattle.verdicts.proofs.walks.reached_rows.Tie as tie

@@ -5,7 +5,7 @@ use mathlib.Core.Bool.{false, _&&_}
 use mathlib.Core.Path.{_≡_, refl, sym, _∙_}
 use Rattle.program.specs.Test.{any}
 use Rattle.store.specs.Rows.{storeProgram}
-use Rattle.verdicts.specs.Marks.{on}
+use Rattle.row_marks.specs.RowMarks.{on}
 use Rattle.verdicts.specs.Walks.{forksOn, rivalsOn}
 use Rattle.verdicts.proofs.Walking.{none-more, one-found, not-on, is-on}
 use borrow.Author.Needs.{needs}
@@ -43,7 +43,9 @@ forks-requires c κs = search needs
 
 returns : tie.Need-returns Inv-loop μ-loop
 unfolding rivalsOn
-returns c = one-found _ _ _ (c .before .before .before .before .loop-test .taken) (is-on _ _ (c .before .before .before .byte-at .ensures) _ (c .before .before .if1 .left) ∙ sym (c .before .forks .ensures) ∙ c .if2 .taken)
+returns c =
+    let byte = c .before .before .before in
+    one-found _ _ _ (byte .before .loop-test .taken) (is-on _ _ (byte .byte-at .ensures) _ (c .before .before .if1 .left) ∙ sym (c .before .forks .ensures) ∙ c .if2 .taken)
 
 add-q-2 : tie.Need-add-q-2 Inv-loop μ-loop
 add-q-2 c = search needs
@@ -52,7 +54,10 @@ loop-less-2 : tie.Need-loop-less-2 Inv-loop μ-loop
 loop-less-2 c = search needs
 
 loop-again-2 : tie.Need-loop-again-2 Inv-loop μ-loop
-loop-again-2 c = (omega arith, none-more _ _ (c .before .before .before .before .before .loop .inv .1) (is-on _ _ (c .before .before .before .byte-at .ensures) _ (c .before .before .if1 .left) ∙ sym (c .before .forks .ensures) ∙ c .if2 .left))
+loop-again-2 c =
+    let byte = c .before .before .before in
+    let fails = is-on _ _ (byte .byte-at .ensures) _ (c .before .before .if1 .left) ∙ sym (c .before .forks .ensures) ∙ c .if2 .left in
+    (omega arith, none-more _ _ (byte .before .before .loop .inv .1) fails)
 
 returns-2 : tie.Need-returns-2 Inv-loop μ-loop
 unfolding rivalsOn

@@ -2,10 +2,10 @@
 use Prim.Native.Nat.{_≤_, _-_}
 use native.Mathlib.Omega.{arith}
 use mathlib.Core.Path.{_≡_, _∙_}
-use Rattle.verdicts.specs.Marks.{Marked}
+use Rattle.row_marks.specs.RowMarks.{Marked}
 use Rattle.verdicts.specs.Walks.{aheadOf}
 use Rattle.tables.proofs.Tables.{bool-byte}
-use Rattle.verdicts.proofs.Marking.{marked-none, marked-more}
+use Rattle.row_marks.proofs.Marking.{marked-none, marked-more}
 use borrow.Author.Needs.{needs}
 use Rattle.verdicts.proofs.walks.rows_ahead.Statement.{statement}
 use Rattle.verdicts.proofs.walks.rows_ahead.Tie as tie

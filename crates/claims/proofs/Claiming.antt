@@ -1,0 +1,77 @@
+-- The claims in turn: the word of a code, one claim more, and the first that fails.
+use Prim.Native.Nat.{ℕ, zero, suc, _+_, _-_, _<_, _≤_}
+use native.Mathlib.Omega.{arith}
+use native.Mathlib.Nat.{add-zero}
+use mathlib.Core.Bool.{Bool, true, false}
+use mathlib.Core.List.{List, [], _∷_}
+use mathlib.Core.Option.{Option, none, some}
+use mathlib.Core.Path.{_≡_, refl, sym, ap, _∙_}
+use lib.ListN.{length, take, drop}
+use lib.Dec.{eqb}
+use borrow.Author.Tests.{eq-eqb, ne-eqb}
+use Rattle.program.specs.declared.Word.the-variants.{Many}
+use Rattle.program.specs.Test.{pick}
+use Rattle.format.specs.declared.Reason.the-variants.{ClaimFails}
+use Rattle.format.specs.Refusals.{refusal, refused, accepted}
+use Rattle.format.specs.Limits.{rowLimit}
+use Rattle.format.specs.Text.{Bytes, byteAt}
+use Rattle.format.specs.Document.{Claim}
+use Rattle.format.specs.Structure.{firstFailing}
+use Rattle.calls.specs.declared.JudgeAnswer.{JudgeAnswer}
+use Rattle.calls.specs.Layout.{wordOf, decodeClaims}
+use Rattle.calls.proofs.Codec.Sparse.{either}
+use Rattle.structure.proofs.Checking.{claimsOn, claims-next}
+use Rattle.claims.specs.Claims.{claimsJudged}
+
+-- ---- the word of a code
+
+pub code-other : (code : ℕ) → (code ≡ 1 → ⊥) → (code ≡ 2 → ⊥) → (code ≡ 3 → ⊥) → (code ≡ 4 → ⊥) → Many ≡ wordOf code
+unfolding wordOf
+code-other code a b d e = rw (ne-eqb code 1 a, ne-eqb code 2 b, ne-eqb code 3 d, ne-eqb code 4 e)
+
+-- ---- one claim more
+
+module _ (ok : Claim → Bool) (s : Bytes) (base line held : ℕ) where
+  abbrev judgedFrom : ℕ → ℕ → JudgeAnswer
+  judgedFrom held c = claimsJudged ok line held (claimsOn s base c)
+
+  pub judged-start : claimsJudged ok line held (claimsOn s base 0) ≡ claimsJudged ok line held (decodeClaims 0 (take rowLimit (drop base s)))
+  judged-start = rw add-zero
+
+  pub judged-end : (c : ℕ) → rowLimit ≤ c → judgedFrom held c ≡ JudgeAnswer.Accepted held
+  unfolding decodeClaims claimsJudged
+  judged-end c l = let q : rowLimit - c ≡ 0 = omega arith in rw q
+
+  module _ (c : ℕ) (l : c < rowLimit) {code : ℕ} (e : code ≡ byteAt s (base + c)) where
+    pub judged-none : code ≡ 0 → judgedFrom held c ≡ judgedFrom held (c + 1)
+    judged-none z = rw (claims-next s base c l, ← e, z)
+
+    pub judged-holds : (code ≡ 0 → ⊥) → ok (record { channel = c; word = wordOf code }) ≡ true → judgedFrom held c ≡ judgedFrom (held + 1) (c + 1)
+    unfolding claimsJudged
+    judged-holds z h = rw (claims-next s base c l, ← e, ne-eqb code 0 z, h)
+
+    pub judged-fails : (code ≡ 0 → ⊥) → ok (record { channel = c; word = wordOf code }) ≡ false → judgedFrom held c ≡ JudgeAnswer.Refused (refusal ClaimFails (line + held))
+    unfolding claimsJudged
+    judged-fails z h = rw (claims-next s base c l, ← e, ne-eqb code 0 z, h)
+
+-- ---- the first that fails
+
+unfoldable pub answerOf : ℕ → Option ℕ → JudgeAnswer
+answerOf count none = JudgeAnswer.Accepted count
+answerOf count (some line) = JudgeAnswer.Refused (refusal ClaimFails line)
+
+judged-first : (ok : Claim → Bool) (line held : ℕ) (ks : List Claim) → claimsJudged ok line held ks ≡ answerOf (held + length ks) (firstFailing ok (line + held) ks)
+unfolding claimsJudged firstFailing answerOf
+judged-first ok line held [] = ap JudgeAnswer.Accepted (sym (add-zero held))
+judged-first ok line held (k ∷ ks) =
+    let q : held + 1 + length ks ≡ held + suc (length ks) = omega arith in
+    let r : line + (held + 1) ≡ line + held + 1 = omega arith in
+    either (ok k)
+    (λ e. rw (e, firstFailing) (rw (q, r) at (judged-first ok line (held + 1) ks)))
+    (λ e. rw (e, firstFailing))
+
+pub judged-is : (ok : Claim → Bool) (line : ℕ) (ks : List Claim) → claimsJudged ok line 0 ks ≡ answerOf (length ks) (firstFailing ok line ks)
+judged-is ok line ks =
+    let q : 0 + length ks ≡ length ks = omega arith in
+    let r : line + 0 ≡ line = omega arith in
+    rw (q, r) at (judged-first ok line 0 ks)

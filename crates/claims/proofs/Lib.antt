@@ -1,0 +1,2 @@
+-- Laws about the claims in turn.
+pub mod Claiming

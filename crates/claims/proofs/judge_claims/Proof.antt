@@ -1,0 +1,99 @@
+-- `judge_claims` meets its contract. The loop's invariant: the claims from row c on, behind those that held, decide what all decide. The measure is the number of rows left.
+use Prim.Native.Nat.{_+_, _-_, _≤_}
+use native.Mathlib.Omega.{arith}
+use mathlib.Core.Path.{_≡_, sym, _∙_}
+use Rattle.format.specs.Limits.{rowLimit}
+use Rattle.calls.specs.Layout.{rowsSize, setsSize}
+use Rattle.store.specs.Rows.{storeProgram}
+use Rattle.tables.specs.Tables.{storeFlow}
+use Rattle.structure.proofs.Checking.{claimsOn}
+use Rattle.claims.specs.Claims.{claimIn, storeClaims, claimsJudged}
+use Rattle.claims.proofs.Claiming.{judged-start, judged-none, judged-holds, judged-fails, judged-end}
+use borrow.Author.Needs.{needs}
+use Rattle.claims.proofs.judge_claims.Statement.{statement}
+use Rattle.claims.proofs.judge_claims.Tie as tie
+
+abbrev Inv-loop : tie.InvT-loop
+Inv-loop store rows grid line held₀ c₀ held c =
+    let ok = claimIn (storeProgram rows store) (storeFlow store) in
+    (c ≤ rowLimit) × (held ≤ c) × (claimsJudged ok line held (claimsOn store (rowsSize + setsSize + setsSize) c) ≡ claimsJudged ok line 0 (storeClaims store))
+
+abbrev μ-loop : tie.MeasureT-loop
+μ-loop store rows grid line held₀ c₀ held c = rowLimit - c
+
+loop-holds : tie.Need-loop-holds Inv-loop μ-loop
+loop-holds c = (omega arith, omega arith, judged-start _ (c .before .before .args .store .now) (rowsSize + setsSize + setsSize) _ _)
+
+add-byte-at : tie.Need-add-byte-at Inv-loop μ-loop
+add-byte-at c = search needs
+
+byte-at-requires : tie.Need-byte-at-requires Inv-loop μ-loop
+byte-at-requires c κs = search needs
+
+cast-row : tie.Need-cast-row Inv-loop μ-loop
+cast-row c = search needs
+
+add-c : tie.Need-add-c Inv-loop μ-loop
+add-c c = search needs
+
+loop-less : tie.Need-loop-less Inv-loop μ-loop
+loop-less c = search needs
+
+loop-again : tie.Need-loop-again Inv-loop μ-loop
+loop-again c = (omega arith, omega arith, sym (judged-none _ _ _ _ _ _ (c .before .before .loop-test .taken) (c .before .byte-at .ensures) (c .if1 .taken)) ∙ c .before .before .before .loop .inv .2)
+
+word-of-requires : tie.Need-word-of-requires Inv-loop μ-loop
+word-of-requires c κs = search needs
+
+word-holds-requires : tie.Need-word-holds-requires Inv-loop μ-loop
+word-holds-requires c κs = search needs
+
+add-held : tie.Need-add-held Inv-loop μ-loop
+add-held c = search needs
+
+loop-less-2 : tie.Need-loop-less-2 Inv-loop μ-loop
+loop-less-2 c = search needs
+
+loop-again-2 : tie.Need-loop-again-2 Inv-loop μ-loop
+unfolding claimIn
+loop-again-2 c =
+    let code = c .before .before .before .before in
+    let holds = sym (rw (c .before .before .word-of .ensures) at (c .before .word-holds .ensures)) ∙ c .if2 .taken in
+    let judged = judged-holds _ _ _ _ _ _ (code .before .loop-test .taken) (code .byte-at .ensures) (c .before .before .before .if1 .left) holds in
+    (omega arith, omega arith, sym judged ∙ code .before .before .loop .inv .2)
+
+add-fails : tie.Need-add-fails Inv-loop μ-loop
+add-fails c = search needs
+
+returns : tie.Need-returns Inv-loop μ-loop
+unfolding claimIn
+returns c =
+    let code = c .before .before .before .before in
+    let fails = sym (rw (c .before .before .word-of .ensures) at (c .before .word-holds .ensures)) ∙ c .if2 .left in
+    let judged = judged-fails _ _ _ _ _ _ (code .before .loop-test .taken) (code .byte-at .ensures) (c .before .before .before .if1 .left) fails in
+    sym judged ∙ code .before .before .loop .inv .2
+
+returns-2 : tie.Need-returns-2 Inv-loop μ-loop
+returns-2 c = sym (judged-end _ _ _ _ _ _ (c .loop-test .left)) ∙ c .before .loop .inv .2
+
+pub judge-claims-spec : {M : Type 1} → statement M
+judge-claims-spec =
+    tie.close
+    (tie.spec
+    Inv-loop
+    μ-loop
+    loop-holds
+    add-byte-at
+    byte-at-requires
+    cast-row
+    add-c
+    loop-less
+    loop-again
+    word-of-requires
+    word-holds-requires
+    add-held
+    loop-less-2
+    loop-again-2
+    add-fails
+    returns
+    returns-2)

@@ -1,0 +1,2 @@
+-- The claims of a store in turn.
+pub mod Claims

@@ -1,0 +1,5 @@
+-- What is kept of a grid, a grid that is cleared, rows of it joined, and the rounds that close it.
+pub mod Keeping
+pub mod Adding
+pub mod Passes
+pub mod Closing

@@ -1,0 +1,41 @@
+// A grid of bytes, one for each pair of rows, that shows a relation between rows: cleared, marked and closed.
+use store::Store;
+ghost use mathlib.Core.Bool.{false};
+ghost use Prim.Native.Nat.{_≤_};
+ghost use lib.ListN.{length};
+ghost use Rattle.format.specs.Limits.{rowLimit};
+ghost use Rattle.grids.specs.Grid.{gridSize, Fills, step, AddsPairs};
+
+pub mod rounds; // rounds.rt: Warshall's rounds
+
+pub use rounds::close;
+
+// The bytes of a grid: that of the pair of rows r and s is r * Store::ROWS + s.
+pub const GRID: usize = Store::ROWS * Store::ROWS;
+
+// Sets every byte of the grid to 0.
+pub fn clear(grid: &mut [u8])
+    requires { ⌜ gridSize ≤ length (now grid) ⌝ }
+    ensures { λ _. ⌜ Fills (λ r s. false) (now (grid .entry)) (now (grid .exit)) ⌝ }
+{
+    let mut i = 0;
+    while i < GRID {
+        grid[i] = 0;
+        i += 1;
+    }
+}
+
+// Marks the pair of rows a and b, where both are there.
+pub fn mark(grid: &mut [u8], rows: u8, a: u8, b: u8)
+    requires { ⌜ (rows ≤ rowLimit) × (gridSize ≤ length (now grid)) ⌝ }
+    ensures { λ _. ⌜ AddsPairs rows (step a b) (now (grid .entry)) (now (grid .exit)) ⌝ }
+{
+    if rows <= a {
+        return;
+    }
+    if rows <= b {
+        return;
+    }
+    let at = a as usize * Store::ROWS + b as usize;
+    grid[at] = 1;
+}

@@ -1,0 +1,2 @@
+-- The places of a channel.
+pub mod Places

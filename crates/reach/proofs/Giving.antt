@@ -1,0 +1,65 @@
+-- What a row gives, by its kind: the steps that are marked are those of the definition.
+use Prim.Native.Nat.{ℕ, _+_, _*_, _≤_, _<_}
+use native.Mathlib.Omega.{arith}
+use native.Mathlib.Decide.{ℕ-discrete}
+use native.Mathlib.Numerals.{add-one}
+use mathlib.Core.Bool.{Bool, true, false, _||_, and-false, or-comm}
+use mathlib.Core.Path.{_≡_, refl, _∙_}
+use lib.ListN.{length, getD, set, length-set}
+use lib.Seq.{getD-set-same, getD-set-other}
+use lib.Dec.{eqb, ltb}
+use borrow.Author.Tests.{eq-eqb, ne-eqb, lt-ltb}
+use Rattle.program.specs.Test.{pick, any}
+use Rattle.program.specs.Program.{Program, resultRow}
+use Rattle.program.specs.Flow.{Table, row}
+use Rattle.program.specs.Walk.{enters}
+use Rattle.format.specs.Limits.{rowLimit}
+use Rattle.format.specs.Document.{member}
+use Rattle.format.specs.Text.{Bytes}
+use Rattle.store.specs.Rows.{storeProgram}
+use Rattle.store.proofs.Laws.{program-length}
+use Rattle.tables.specs.Tables.{flowFlag, storeFlow}
+use Rattle.reach.specs.declared.edges.Kind.{Kind}
+use Rattle.reach.specs.declared.edges.Kind.the-variants.{Body, Branch, Call}
+use Rattle.grids.specs.Grid.{AddsPairs}
+use Rattle.grids.proofs.Adding.{adds-as, adds-then}
+use Rattle.reach.specs.Edges.{kindAt, resultOf, bodyResult, callSteps, intoBoth, fromBoth, kindCalled, bodySteps, anyBody, entering, kindSteps, rowSteps}
+
+-- ---- a fun row that may be called
+
+module _ (s : Bytes) (p : Program) (q rest f k : ℕ) where
+  flag-is : storeFlow s f (row k) ≡ ltb 0 (flowFlag s f (k + 1))
+  unfolding storeFlow member
+  flag-is = rw add-one
+
+  pub body-out : flowFlag s f (k + 1) ≡ 0 → (r s′ : ℕ) → bodySteps p (storeFlow s) q rest f k r s′ ≡ false
+  unfolding bodySteps
+  body-out e r s′ = rw (flag-is, e)
+
+  pub body-none : ((r s′ : ℕ) → kindCalled p q rest (kindAt p k) r s′ ≡ false) → (r s′ : ℕ) → bodySteps p (storeFlow s) q rest f k r s′ ≡ false
+  unfolding bodySteps
+  body-none e r s′ = rw (e r s′, and-false)
+
+  pub body-in : (flowFlag s f (k + 1) ≡ 0 → ⊥) → {t rest′ : ℕ} → kindAt p k ≡ Body t rest′ → {result : ℕ} → result ≡ bodyResult p k
+      → (r s′ : ℕ) → callSteps q rest t result r s′ ≡ bodySteps p (storeFlow s) q rest f k r s′
+  unfolding bodySteps kindCalled bodyResult resultOf
+  body-in ne e {result} i r s′ = rw (flag-is, lt-ltb 0 (flowFlag s f (k + 1)) (omega (arith, ne)), i, e)
+
+-- ---- what a row gives, by its kind
+
+pub as-kind : (p : Program) (flow : Table) (q : ℕ) {n : ℕ} {kind : Kind} {a b : Bytes} → kindAt p q ≡ kind
+    → AddsPairs n (kindSteps p flow q kind) a b → AddsPairs n (rowSteps p flow q) a b
+unfolding rowSteps
+as-kind p flow q e h = adds-as (λ r s. rw e) h
+
+-- into both branches, and back from both
+pub as-branch : (p : Program) (flow : Table) (q : ℕ) {n k t w rest x y : ℕ} {a b c : Bytes} → kindAt p q ≡ Branch k t w rest → x ≡ resultRow p t → y ≡ resultRow p w
+    → AddsPairs n (intoBoth q t w) a b → AddsPairs n (fromBoth rest x y) b c → AddsPairs n (rowSteps p flow q) a c
+unfolding kindSteps entering enters intoBoth
+as-branch p flow q e i j h k = as-kind p flow q e (adds-as (λ r s. rw (i, j)) (adds-then h k))
+
+-- the calls of a set's rows, in a store
+pub as-call : (n : ℕ) (s : Bytes) (flow : Table) (q : ℕ) {m f rest : ℕ} {a b : Bytes} → kindAt (storeProgram n s) q ≡ Call f rest
+    → AddsPairs m (anyBody (storeProgram n s) flow q rest f n) a b → AddsPairs m (rowSteps (storeProgram n s) flow q) a b
+unfolding kindSteps
+as-call n s flow q e h = as-kind (storeProgram n s) flow q e (adds-as (λ r t. rw program-length) h)

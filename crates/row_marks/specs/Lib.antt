@@ -1,0 +1,2 @@
+-- Sets of rows as bytes.
+pub mod RowMarks

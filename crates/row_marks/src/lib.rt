@@ -1,0 +1,51 @@
+// Sets of rows as bytes: a row is in the set if its byte is not 0.
+ghost use mathlib.Core.Path.{_≡_};
+ghost use Prim.Native.Nat.{_+_, _≤_, max, min};
+ghost use lib.ListN.{length};
+ghost use Rattle.row_marks.specs.RowMarks.{meets, threeMeet};
+
+// The larger number.
+fn larger(a: u8, b: u8) -> u8
+    ensures { λ m. ⌜ m ≡ max a b ⌝ }
+{
+    if a < b { b } else { a }
+}
+
+// The smaller number.
+fn smaller(a: u8, b: u8) -> u8
+    ensures { λ m. ⌜ m ≡ min a b ⌝ }
+{
+    if a < b { a } else { b }
+}
+
+// Whether one of the first n rows is in both sets; the first begins at a position. Every row is looked at, so that the loop
+// has no way out but its end.
+pub fn meets(bytes: &[u8], at: usize, marks: &[u8], n: usize) -> bool
+    requires { ⌜ (at + n ≤ length (now bytes)) × (n ≤ length (now marks)) ⌝ }
+    ensures { λ b. ⌜ b ≡ meets n (now (bytes .entry)) at (now (marks .entry)) ⌝ }
+{
+    let mut found = 0;
+    let mut i = 0;
+    while i < n {
+        let x = smaller(bytes[at + i], marks[i]);
+        found = larger(found, x);
+        i += 1;
+    }
+    0 < found
+}
+
+// Whether one of the first n rows is in all three sets.
+pub fn three_meet(a: &[u8], b: &[u8], c: &[u8], n: usize) -> bool
+    requires { ⌜ (n ≤ length (now a)) × (n ≤ length (now b)) × (n ≤ length (now c)) ⌝ }
+    ensures { λ r. ⌜ r ≡ threeMeet n (now (a .entry)) (now (b .entry)) (now (c .entry)) ⌝ }
+{
+    let mut found = 0;
+    let mut i = 0;
+    while i < n {
+        let x = smaller(b[i], c[i]);
+        let y = smaller(a[i], x);
+        found = larger(found, y);
+        i += 1;
+    }
+    0 < found
+}
