@@ -7,13 +7,14 @@ use Rattle.format.specs.Text.{Bytes}
 use Rattle.calls.specs.declared.Counts.{Counts}
 use Rattle.calls.specs.declared.LoadAnswer.{LoadAnswer}
 use Rattle.calls.specs.declared.JudgeAnswer.{JudgeAnswer}
-use Rattle.calls.specs.Calls.{Leaves, load, judge}
+use Rattle.calls.specs.Answers.{refusalAnswer, loadAnswer, judgeAnswer}
+use Rattle.calls.specs.Calls.{Leaves, unaltered, load, judge}
 use Rattle.checker.proofs.Promises.{sound}
 use Rattle.acceptance.specs.Accepting.{ClaimsFit, SoundFile, judgedAfter, Accepts}
 
 module _ (file store : Bytes) {left : Bytes} where
   pub file-refused : {r : Refusal} → Leaves (load file store) (LoadAnswer.Refused r) left → Accepts file store (JudgeAnswer.Refused r) left
-  unfolding judgedAfter
+  unfolding judgedAfter judgeAnswer refusalAnswer
   file-refused loads =
       record {
         answer-is = rw (← (loads .answer-is));
@@ -21,11 +22,12 @@ module _ (file store : Bytes) {left : Bytes} where
         sound = λ n e. let z : _≡_ {A = ℕ} 0 1 = cc in absurd (omega arith);
       }
 
-  pub file-judged : {c : Counts} {a : JudgeAnswer} → Leaves (load file store) (LoadAnswer.Loaded c) left → a ≡ judge left → Accepts file store a left
-  unfolding judgedAfter SoundFile ClaimsFit
+  pub file-judged : {c : Counts} {a : JudgeAnswer} {after : Bytes} → Leaves (load file store) (LoadAnswer.Loaded c) left → Leaves (unaltered (judge left) left) a after
+      → Accepts file store a left
+  unfolding judgedAfter SoundFile ClaimsFit loadAnswer
   file-judged {c} loads judges =
       record {
-        answer-is = judges ∙ rw (← (loads .answer-is), loads .bytes-are);
+        answer-is = judges .answer-is ∙ rw (← (loads .answer-is), loads .bytes-are);
         bytes-are = loads .bytes-are;
-        sound = λ n e. sound file store loads judges c n refl e;
+        sound = λ n e. sound file store loads judges _ n refl e;
       }

@@ -1,7 +1,7 @@
 -- Loading and judging a file at once, and what an accepted file's runs do.
 use Prim.Native.Nat.{ℕ}
 use mathlib.Core.Bool.{So}
-use mathlib.Core.List.{List}
+use mathlib.Core.List.{List, [], _∷_}
 use mathlib.Core.Option.{some}
 use mathlib.Core.Path.{_≡_}
 use Rattle.program.specs.Each.{Member}
@@ -14,6 +14,7 @@ use Rattle.format.specs.Print.{documentText}
 use Rattle.format.specs.WellFormed.{wellFormed}
 use Rattle.calls.specs.declared.LoadAnswer.{LoadAnswer}
 use Rattle.calls.specs.declared.JudgeAnswer.{JudgeAnswer}
+use Rattle.calls.specs.Answers.{answered, judgeAnswer}
 use Rattle.calls.specs.Calls.{load, judge}
 
 -- demand 3 of a document: "after every list of steps by the run rules from the start .. on every instance of a claimed channel, the sends and receives .. fit the claimed topology"
@@ -35,4 +36,4 @@ judgedAfter (LoadAnswer.Loaded c) left = judge left
 pub record Accepts (file store : Bytes) (answer : JudgeAnswer) (left : Bytes) : Type 0 where
   pub answer-is : answer ≡ judgedAfter (load file store .answer) (load file store .bytes)
   pub bytes-are : left ≡ load file store .bytes
-  pub sound : (n : ℕ) → answer ≡ JudgeAnswer.Accepted n → SoundFile file
+  pub sound : (n : ℕ) → judgeAnswer answer ≡ answered (n ∷ []) → SoundFile file

@@ -3,7 +3,7 @@
 --   judge    `opened`, then Judging.judgeDocument          (20, 21, 22; 10, 11)
 --   verdict  `opened`, then Judging.verdictDocument        (20, 21, 22, 24; 10)
 --   write    `opened`, then Print.documentText of format   (20, 21, 22, 23)
--- The contract of each public function is equality with its definition here; where bytes are lent to be altered, by `Leaves`.
+-- The contract of each public function is equality with its definition here; by `Leaves`, for the answer and the lent bytes.
 use Prim.Native.Nat.{ℕ}
 use mathlib.Core.Bool.{Bool, true, false, not, _&&_}
 use mathlib.Core.List.{List, [], _∷_, _++_}
@@ -39,6 +39,10 @@ pub record Outcome (A : Type 0) : Type 0 where
 pub record Leaves {A : Type 0} (o : Outcome A) (answer : A) (left : Bytes) : Type 0 where
   pub answer-is : answer ≡ o .answer
   pub bytes-are : left ≡ o .bytes
+
+-- the outcome of a call that reads the lent bytes and alters none
+abbrev pub unaltered : {A : Type 0} → A → Bytes → Outcome A
+unaltered answer lent = record { answer = answer; bytes = lent }
 
 -- 22: "bytes that no load leaves, the length limit set aside"
 unfoldable pub unsound : Bytes → Bool

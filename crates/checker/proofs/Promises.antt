@@ -2,80 +2,103 @@
 -- the answer and the lent bytes are those of its definition. So what is proved of the definitions (calls: Demands) holds of the functions.
 use Prim.Native.Nat.{ℕ, _≤_, _<_}
 use mathlib.Core.Bool.{So}
-use mathlib.Core.List.{List, _++_, map}
+use mathlib.Core.List.{List, [], _∷_, _++_}
 use mathlib.Core.Option.{some}
-use mathlib.Core.Path.{_≡_, sym, _∙_}
+use mathlib.Core.Path.{_≡_, sym, ap, _∙_}
 use mathlib.Core.Logic.{_↔_}
 use lib.ListN.{length, take, drop, replicate}
-use Rattle.program.specs.Each.{Member, Each}
-use Rattle.program.specs.Program.{chanAt, chanRow}
-use Rattle.program.specs.FlowRule.{KeepsAll}
+use Rattle.program.specs.Each.{Member}
+use Rattle.program.specs.Program.{chanAt}
 use Rattle.program.specs.Run.{Path, made, Step, run}
 use Rattle.program.specs.History.{HistoryFits}
-use Rattle.format.specs.declared.Refusal.{Refusal}
 use Rattle.format.specs.Limits.{byteLimit}
 use Rattle.format.specs.Text.{Bytes}
-use Rattle.format.specs.Refusals.{accepted}
 use Rattle.format.specs.Document.{Claim, Document}
 use Rattle.format.specs.Print.{documentText}
 use Rattle.format.specs.WellFormed.{wellFormed}
-use Rattle.calls.specs.declared.Counts.{Counts}
 use Rattle.calls.specs.declared.LoadAnswer.{LoadAnswer}
 use Rattle.calls.specs.declared.JudgeAnswer.{JudgeAnswer}
 use Rattle.calls.specs.declared.VerdictAnswer.{VerdictAnswer}
-use Rattle.calls.specs.declared.VerdictStatus.{VerdictStatus}
 use Rattle.calls.specs.declared.WriteAnswer.{WriteAnswer}
+use Rattle.calls.specs.Answers.{turnedBack, answered, loadAnswer, judgeAnswer, verdictAnswer, writeAnswer}
 use Rattle.calls.specs.Layout.{storeSize}
-use Rattle.calls.specs.Judging.{verdictWords, flowTable, commTable, wordHolds, WordHolds, reaches}
-use Rattle.calls.specs.Calls.{Leaves, load, judge, verdict, write, counts, opened}
+use Rattle.calls.specs.Calls.{Leaves, unaltered, load, judge, verdict, write}
+use Rattle.calls.specs.Exact.{StoreHolds, RulesHold, ClaimsHold, JudgeIs, VerdictIs}
 use Rattle.calls.proofs.Demands as definitions
 
 -- a load
 module _ (file store : Bytes) {answer : LoadAnswer} {left : Bytes} (loads : Leaves (load file store) answer left) where
-  -- Demand 1: "a load refused for its file leaves the store empty, and every other refused call alters no lent byte"
-  pub load-refused : (r : Refusal) → answer ≡ LoadAnswer.Refused r → storeSize ≤ length store → left ≡ replicate storeSize 0 ++ drop storeSize store
-  load-refused r e l = loads .bytes-are ∙ definitions.load-refused file store r (sym (loads .answer-is) ∙ e) l
+  same : loadAnswer (load file store .answer) ≡ loadAnswer answer
+  same = ap loadAnswer (sym (loads .answer-is))
 
-  pub load-too-short : length store < storeSize → left ≡ store
-  load-too-short l = loads .bytes-are ∙ definitions.load-too-short file store l
+  -- Demand 1: "a load refused for its file leaves the store empty, and every other refused call alters no lent byte"
+  pub load-refused : (n line : ℕ) → loadAnswer answer ≡ turnedBack n line → storeSize ≤ length store → left ≡ replicate storeSize 0 ++ drop storeSize store
+  load-refused n line e l = loads .bytes-are ∙ definitions.load-refused file store n line (same ∙ e) l
+
+  pub load-too-short : length store < storeSize → (loadAnswer answer ≡ turnedBack 20 0) × (left ≡ store)
+  load-too-short l = let (a, b) = definitions.load-too-short file store l in (sym same ∙ a, loads .bytes-are ∙ b)
 
   -- Demand 2: "Load takes exactly the files that document 01 describes"
-  pub load-takes : storeSize ≤ length store → (c : Counts)
-      → (answer ≡ LoadAnswer.Loaded c) ↔ ((d : Document) × (file ≡ documentText d) × So (wellFormed d) × (length file ≤ byteLimit) × (c ≡ counts d))
-  load-takes l c = rw (loads .answer-is) (definitions.load-takes file store l c)
+  pub load-takes : storeSize ≤ length store → (ns : List ℕ)
+      → (loadAnswer answer ≡ answered ns)
+      ↔ ((d : Document) × (file ≡ documentText d) × So (wellFormed d) × (length file ≤ byteLimit)
+      × (ns ≡ (length (d .rows) ∷ length (d .flows) ∷ length (d .comms) ∷ length (d .claims) ∷ [])))
+  load-takes l ns = rw (sym same) (definitions.load-takes file store l ns)
 
   -- "Writing a loaded store gives back the file's bytes"
-  pub write-load : (out : Bytes) {written : WriteAnswer} {after : Bytes} → Leaves (write left out) written after → (c : Counts) → answer ≡ LoadAnswer.Loaded c → length file ≤ length out
-      → (written ≡ WriteAnswer.Written (length file)) × (after ≡ file ++ drop (length file) out)
-  write-load out writes c e l =
-      let (w, b) = definitions.write-load file store out c (sym (loads .answer-is) ∙ e) l in
-      (writes .answer-is ∙ rw (loads .bytes-are) w, writes .bytes-are ∙ rw (loads .bytes-are) b)
+  pub write-load : (out : Bytes) {written : WriteAnswer} {after : Bytes} → Leaves (write left out) written after
+      → (ns : List ℕ) → loadAnswer answer ≡ answered ns → length file ≤ length out
+      → (writeAnswer written ≡ answered (length file ∷ [])) × (after ≡ file ++ drop (length file) out)
+  write-load out writes ns e l =
+      let (w, b) = definitions.write-load file store out ns (same ∙ e) l in
+      (ap writeAnswer (writes .answer-is) ∙ rw (loads .bytes-are) w, writes .bytes-are ∙ rw (loads .bytes-are) b)
 
-  -- Demand 3: where load took the file and judge accepted the store as load left it, then after every list of steps the history of every instance of a
-  -- claimed channel fits the claimed word
-  pub sound : {judged : JudgeAnswer} → judged ≡ judge left → (c : Counts) (n : ℕ) → answer ≡ LoadAnswer.Loaded c → judged ≡ JudgeAnswer.Accepted n
-      → (d : Document) × (file ≡ documentText d) × So (wellFormed d)
-      × ((k : Claim) → Member k (d .claims) → (name : ℕ) → chanAt (d .rows) (k .channel) ≡ some name
-      → (steps : List Step) (maker : Path) → HistoryFits (d .rows) (run (d .rows) steps) (made maker name) (k .word))
-  sound judges c n e f = definitions.sound file store c n (sym (loads .answer-is) ∙ e) (rw (loads .bytes-are) at (sym judges ∙ f))
+  -- judge of what load left, and the store afterwards
+  module _ {judged : JudgeAnswer} {after : Bytes} (judges : Leaves (unaltered (judge left) left) judged after) where
+    same-judged : judgeAnswer (judge (load file store .bytes)) ≡ judgeAnswer judged
+    same-judged = ap (λ (s : Bytes). judgeAnswer (judge s)) (sym (loads .bytes-are)) ∙ ap judgeAnswer (sym (judges .answer-is))
+
+    -- "Judge accepts exactly if the tables keep the flow rules .. and every claim holds over all pairs of walks that can share a run"
+    pub judge-loaded : (ns : List ℕ) → loadAnswer answer ≡ answered ns → (n : ℕ)
+        → (judgeAnswer judged ≡ answered (n ∷ []))
+        ↔ ((d : Document) × (file ≡ documentText d) × So (wellFormed d) × RulesHold d × ClaimsHold d × (n ≡ length (d .claims)))
+    judge-loaded ns e n = rw (sym same-judged) (definitions.judge-loaded file store ns (same ∙ e) n)
+
+    -- Demand 3: where load took the file and judge accepted the store as load left it, then after every list of steps the history of every instance of a
+    -- claimed channel fits the claimed word
+    pub sound : (ns : List ℕ) (n : ℕ) → loadAnswer answer ≡ answered ns → judgeAnswer judged ≡ answered (n ∷ [])
+        → (d : Document) × (file ≡ documentText d) × So (wellFormed d)
+        × ((k : Claim) → Member k (d .claims) → (name : ℕ) → chanAt (d .rows) (k .channel) ≡ some name
+        → (steps : List Step) (maker : Path) → HistoryFits (d .rows) (run (d .rows) steps) (made maker name) (k .word))
+    sound ns n e f = definitions.sound file store ns n (same ∙ e) (same-judged ∙ f)
 
 -- a write: what it leaves where it is refused; and loading what it wrote gives back the store
 module _ (store out : Bytes) {answer : WriteAnswer} {left : Bytes} (writes : Leaves (write store out) answer left) where
-  pub write-refused : (r : Refusal) → answer ≡ WriteAnswer.Refused r → left ≡ out
-  write-refused r e = writes .bytes-are ∙ definitions.write-refused store out r (sym (writes .answer-is) ∙ e)
+  written-same : writeAnswer (write store out .answer) ≡ writeAnswer answer
+  written-same = ap writeAnswer (sym (writes .answer-is))
 
-  pub load-write : (other : Bytes) (n : ℕ) {loaded : LoadAnswer} {after : Bytes} → Leaves (load (take n left) other) loaded after → answer ≡ WriteAnswer.Written n → n ≤ byteLimit
-      → storeSize ≤ length other
-      → after ≡ take storeSize store ++ drop storeSize other
-  load-write other n loads e l m = loads .bytes-are ∙ rw (writes .bytes-are) (definitions.load-write store out other n (sym (writes .answer-is) ∙ e) l m)
+  pub write-refused : (n line : ℕ) → writeAnswer answer ≡ turnedBack n line → left ≡ out
+  write-refused n line e = writes .bytes-are ∙ definitions.write-refused store out n line (written-same ∙ e)
 
--- "Judge accepts exactly if the tables keep the flow rules .. and every claim holds over all pairs of walks that can share a run"
-pub judge-accepts : (store : Bytes) {answer : JudgeAnswer} → answer ≡ judge store → (d : Document) → opened store ≡ accepted d → (n : ℕ)
-    → (answer ≡ JudgeAnswer.Accepted n) ↔ (KeepsAll (d .rows) (flowTable d) (commTable d) × Each (λ (k : Claim). WordHolds d (k .channel) (k .word)) (d .claims) × (n ≡ length (d .claims)))
-judge-accepts store judges d o n = rw judges (definitions.judge-accepts store d o n)
+  pub load-write : (other : Bytes) (n : ℕ) {loaded : LoadAnswer} {after : Bytes} → Leaves (load (take n left) other) loaded after
+      → writeAnswer answer ≡ answered (n ∷ []) → n ≤ byteLimit → storeSize ≤ length other → after ≡ take storeSize store ++ drop storeSize other
+  load-write other n loads e l m = loads .bytes-are ∙ rw (writes .bytes-are) (definitions.load-write store out other n (written-same ∙ e) l m)
 
--- a verdict's words; that each is exact is `word-exact` of calls: Demands
-pub verdict-words : (store : Bytes) (c : ℕ) {answer : VerdictAnswer} → answer ≡ verdict store c → (d : Document) → opened store ≡ accepted d → So (chanRow (d .rows) c)
-    → KeepsAll (d .rows) (flowTable d) (commTable d)
-    → answer ≡ record { status = VerdictStatus.Given; words = map (wordHolds d (reaches d) c) verdictWords }
-verdict-words store c gives d o r k = gives ∙ definitions.verdict-words store d c o r k
+-- judge and verdict of any store: every answer, case by case; and the store is as it was
+module _ (store : Bytes) where
+  module _ {answer : JudgeAnswer} {left : Bytes} (judges : Leaves (unaltered (judge store) store) answer left) where
+    pub judge-unaltered : left ≡ store
+    judge-unaltered = judges .bytes-are
+
+    pub judge-accepts : (n : ℕ) → (judgeAnswer answer ≡ answered (n ∷ [])) ↔ ((d : Document) × StoreHolds store d × RulesHold d × ClaimsHold d × (n ≡ length (d .claims)))
+    judge-accepts n = rw (judges .answer-is) (definitions.judge-accepts store n)
+
+    pub judge-exact : JudgeIs store (judgeAnswer answer)
+    judge-exact = rw (judges .answer-is) (definitions.judge-exact store)
+
+  module _ (c : ℕ) {answer : VerdictAnswer} {left : Bytes} (gives : Leaves (unaltered (verdict store c) store) answer left) where
+    pub verdict-unaltered : left ≡ store
+    verdict-unaltered = gives .bytes-are
+
+    pub verdict-exact : VerdictIs store c (verdictAnswer answer)
+    verdict-exact = rw (gives .answer-is) (definitions.verdict-exact store c)

@@ -7,8 +7,7 @@ use entry::Opened;
 use format::Reason;
 use format::Refusal;
 use store::Store;
-ghost use mathlib.Core.Path.{_≡_};
-ghost use Rattle.calls.specs.Calls.{Leaves, load, judge, verdict, write};
+ghost use Rattle.calls.specs.Calls.{Leaves, load, judge, verdict, write, unaltered};
 
 // Loads a file into the lent store: its counts, or refusals 20 and 1 to 9.
 pub fn load(file: &[u8], store: &mut [u8]) -> LoadAnswer
@@ -25,7 +24,7 @@ pub fn load(file: &[u8], store: &mut [u8]) -> LoadAnswer
 
 // Judges a store: the count of its claims, all of which hold, or refusals 20 to 22, 10 and 11.
 pub fn judge(store: &[u8]) -> JudgeAnswer
-    ensures { λ a. ⌜ a ≡ judge (now (store .entry)) ⌝ }
+    ensures { λ a. ⌜ Leaves (unaltered (judge (now (store .entry))) (now (store .entry))) a (now (store .exit)) ⌝ }
 {
     match entry::open(store) {
         Opened::Refused(refusal) => JudgeAnswer::Refused(refusal),
@@ -35,7 +34,7 @@ pub fn judge(store: &[u8]) -> JudgeAnswer
 
 // The verdict of a channel: its four words, or refusals 20 to 22, 24 and 10.
 pub fn verdict(store: &[u8], channel: usize) -> VerdictAnswer
-    ensures { λ a. ⌜ a ≡ verdict (now (store .entry)) channel ⌝ }
+    ensures { λ a. ⌜ Leaves (unaltered (verdict (now (store .entry)) channel) (now (store .entry))) a (now (store .exit)) ⌝ }
 {
     match entry::open(store) {
         Opened::Refused(refusal) => judging::no_verdict(refusal),

@@ -28,6 +28,7 @@ pub extern "C" fn dispenser_load(file: &[u8], store: &mut [u8]) -> u64
 #[no_mangle]
 pub extern "C" fn dispenser_judge(store: &[u8]) -> u64
     ensures { λ n. ⌜ n ≡ packed numberBits (judgeAnswer (judge (now (store .entry)))) ⌝ }
+    ensures { λ _. ⌜ now (store .exit) ≡ now (store .entry) ⌝ }
 {
     let answer = checker::judge(store);
     packing::pack_judge(answer)
@@ -37,6 +38,7 @@ pub extern "C" fn dispenser_judge(store: &[u8]) -> u64
 #[no_mangle]
 pub extern "C" fn dispenser_verdict(store: &[u8], channel: usize) -> u64
     ensures { λ n. ⌜ n ≡ packed wordBits (verdictAnswer (verdict (now (store .entry)) channel)) ⌝ }
+    ensures { λ _. ⌜ now (store .exit) ≡ now (store .entry) ⌝ }
 {
     let answer = checker::verdict(store, channel);
     packing::pack_verdict(answer)

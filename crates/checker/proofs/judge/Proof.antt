@@ -1,6 +1,6 @@
 -- `judge` meets its contract: 20 to 22 of the store, then what its document gives.
 use mathlib.Core.Path.{sym}
-use Rattle.checker.proofs.Judges.{judge-closed, fixed-size, counted, judge-opened}
+use Rattle.checker.proofs.Judges.{as-it-was, judge-closed, fixed-size, counted, judge-opened}
 use borrow.Author.Needs.{needs}
 use Rattle.checker.proofs.judge.Statement.{statement}
 use Rattle.checker.proofs.judge.Tie as tie
@@ -24,10 +24,10 @@ judge-rows-requires c κs = (
 )
 
 returns : tie.Need-returns
-returns c = judge-closed _ (rw (c .before .refusal .given .1) at (c .before .before .before .«open» .ensures))
+returns c = as-it-was (judge-closed _ (rw (c .before .refusal .given .1) at (c .before .before .before .«open» .ensures)))
 
 returns-2 : tie.Need-returns-2
-returns-2 c = judge-opened _ _ (rw (c .before .before .before .rows .given .1) at (c .before .before .before .before .before .«open» .ensures)) (c .judge-rows .ensures)
+returns-2 c = as-it-was (judge-opened _ _ (rw (c .before .before .before .rows .given .1) at (c .before .before .before .before .before .«open» .ensures)) (c .judge-rows .ensures))
 
 pub judge-spec : {M : Type 1} → statement M
 judge-spec =

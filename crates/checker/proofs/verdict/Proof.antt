@@ -1,6 +1,6 @@
 -- `verdict` meets its contract: 20 to 22 of the store, then what its document gives.
 use mathlib.Core.Path.{sym, _∙_}
-use Rattle.checker.proofs.Judges.{verdict-closed, fixed-size, counted, verdict-opened}
+use Rattle.checker.proofs.Judges.{as-it-was, verdict-closed, fixed-size, counted, verdict-opened}
 use borrow.Author.Needs.{needs}
 use Rattle.checker.proofs.verdict.Statement.{statement}
 use Rattle.checker.proofs.verdict.Tie as tie
@@ -27,10 +27,10 @@ verdict-rows-requires c κs = (
 )
 
 returns : tie.Need-returns
-returns c = c .no-verdict .ensures ∙ verdict-closed _ (rw (c .before .before .refusal .given .1) at (c .before .before .before .before .«open» .ensures)) _
+returns c = as-it-was (c .no-verdict .ensures ∙ verdict-closed _ (rw (c .before .before .refusal .given .1) at (c .before .before .before .before .«open» .ensures)) _)
 
 returns-2 : tie.Need-returns-2
-returns-2 c = verdict-opened _ _ (rw (c .before .before .before .rows .given .1) at (c .before .before .before .before .before .«open» .ensures)) _ (c .verdict-rows .ensures)
+returns-2 c = as-it-was (verdict-opened _ _ (rw (c .before .before .before .rows .given .1) at (c .before .before .before .before .before .«open» .ensures)) _ (c .verdict-rows .ensures))
 
 pub verdict-spec : {M : Type 1} → statement M
 verdict-spec =
