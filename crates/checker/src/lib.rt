@@ -19,7 +19,7 @@ pub fn load(file: &[u8], store: &mut [u8]) -> LoadAnswer
             line: 0,
         });
     }
-    filing::load_file(file, store)
+    load_file::load_file(file, store)
 }
 
 // Judges a store: the count of its claims, all of which hold, or refusals 20 to 22, 10 and 11.

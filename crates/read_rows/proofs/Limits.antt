@@ -1,14 +1,16 @@
 -- The numbers of a row as read: whether one is above the limit, and that a byte holds each where none is.
-use Prim.Native.Nat.{ℕ, zero, suc, _%_, _<_}
+use Prim.Native.Nat.{ℕ, zero, suc, _+_, _%_, _<_, _≤_}
 use mathlib.Core.Bool.{Bool, true, false, not, _&&_, So, false≢true}
 use mathlib.Core.List.{List, [], _∷_, _++_, map}
 use mathlib.Core.Path.{_≡_, refl, sym, ap, _∙_}
 use native.Mathlib.Omega.{arith}
 use native.Mathlib.Nat.{mod-eq-of-lt}
+use native.Mathlib.Numerals.{add-one}
 use native.Mathlib.Decide.{ℕ-discrete}
-use lib.ListN.{take}
+use lib.ListN.{length, take, getD}
+use lib.Seq.{take-all}
 use lib.Dec.{ltb, eqb}
-use borrow.Author.Tests.{ltb-true, ne-eqb}
+use borrow.Author.Tests.{lt-ltb, le-ltb, ltb-true, ne-eqb}
 use Rattle.program.specs.declared.Row.{Row}
 use Rattle.program.specs.Test.{pick}
 use Rattle.program.specs.Each.{every}
@@ -67,6 +69,40 @@ not-all true true false = refl
 not-all true false true = refl
 not-all true false false = refl
 not-all false q r = refl
+
+-- the first numbers of a list, one more, or one above the limit among them
+every-next : (f : ℕ → Bool) (ns : List ℕ) (i : ℕ) → i < length ns → every f (take i ns) ≡ true → f (getD ns i 0) ≡ true → every f (take (suc i) ns) ≡ true
+unfolding every
+every-next f [] i l h k = absurd (omega arith)
+every-next f (n ∷ ns) zero l h k = rw k
+every-next f (n ∷ ns) (suc i) l h k =
+    rw (and-left (f n) (every f (take i ns)) h) (every-next f ns i (omega arith) (and-right (f n) (every f (take i ns)) h) k)
+
+every-fails : (f : ℕ → Bool) (ns : List ℕ) (i count : ℕ) → i < count → i < length ns → f (getD ns i 0) ≡ false → every f (take count ns) ≡ false
+unfolding every
+every-fails f [] i count l h k = absurd (omega arith)
+every-fails f (n ∷ ns) i zero l h k = absurd (omega arith)
+every-fails f (n ∷ ns) zero (suc c) l h k = rw k
+every-fails f (n ∷ ns) (suc i) (suc c) l h k = rw (every-fails f ns i c (omega arith) (omega arith) k) (and-false (f n))
+  where
+    and-false : (b : Bool) → (b && false) ≡ false
+    and-false true = refl
+    and-false false = refl
+
+-- the first i numbers have been tested, and none is above the limit
+module _ (ns : List ℕ) (i count : ℕ) where
+  module _ (tested : every (λ n. ltb n rowLimit) (take i ns) ≡ true) where
+    pub tested-one : i < length ns → getD ns i 0 < rowLimit → every (λ n. ltb n rowLimit) (take (i + 1) ns) ≡ true
+    tested-one l h = rw (add-one i) (every-next (λ n. ltb n rowLimit) ns i l tested (lt-ltb (getD ns i 0) rowLimit h))
+
+    pub tested-count : i ≤ count → count ≤ i → false ≡ numbersAbove (take count ns)
+    tested-count l h = let e : count ≡ i = omega arith in rw (e, tested)
+
+    pub tested-all : i ≤ count → length ns ≤ i → false ≡ numbersAbove (take count ns)
+    tested-all l h = rw (take-all count ns (omega arith)) (rw (rw (take-all i ns h) at tested))
+
+  pub tested-above : i < count → i < length ns → rowLimit ≤ getD ns i 0 → true ≡ numbersAbove (take count ns)
+  tested-above c l h = rw (every-fails (λ n. ltb n rowLimit) ns i count c l (le-ltb (getD ns i 0) rowLimit h))
 
 -- the numbers of the form of a row
 abbrev numbers : RawRow → List ℕ

@@ -84,7 +84,8 @@ unfolding faultFrom faultAfter
 from-falling least [] = rw below-none
 from-falling least (m ∷ ms) = rw (below-next m ms) (go (leb memberLimit m) (leb least m) (from-falling (m + 1) ms))
   where
-    go : (p q : Bool) → faultFrom NotRising (m + 1) ms ≡ pick (below ms) NotRising AboveLimit → faultFrom (pick p AboveLimit (pick q NotRising NotRising)) (m + 1) ms ≡ pick (not p && below ms) NotRising AboveLimit
+    go : (p q : Bool) → faultFrom NotRising (m + 1) ms ≡ pick (below ms) NotRising AboveLimit
+        → faultFrom (pick p AboveLimit (pick q NotRising NotRising)) (m + 1) ms ≡ pick (not p && below ms) NotRising AboveLimit
     go true q h = from-above (m + 1) ms
     go false true h = h
     go false false h = h

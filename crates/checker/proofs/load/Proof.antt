@@ -1,10 +1,10 @@
 use borrow.Author.Needs.{needs}
-use Rattle.filing.proofs.Files.{too-short, long-enough}
+use Rattle.load_file.proofs.Files.{too-short, long-enough}
 use Rattle.checker.proofs.load.Statement.{statement}
 use Rattle.checker.proofs.load.Tie as tie
 use Rattle.checker.proofs.load.Reads as reads
 use Rattle.checker.proofs.load.Lts as lts
-use Rattle.filing.proofs.load_file.Reads as load-file-reads
+use Rattle.load_file.proofs.load_file.Reads as load-file-reads
 
 -- src/lib.rt:72:9
 returns : tie.Need-returns

@@ -1,107 +1,68 @@
-use Prim.Native.Nat.{suc, _-_}
-use mathlib.Core.Path.{_≡_}
+-- The loop's invariant: no number before i is above the limit, and i is at most the count. The measure is how many numbers are left.
+use Prim.Native.Nat.{_≤_, _-_}
+use mathlib.Core.Path.{_≡_, refl}
+use mathlib.Core.Bool.{true}
 use native.Mathlib.Omega.{arith}
-use lib.Seq.{take-nil}
-use borrow.Author.Tests.{lt-ltb, le-ltb}
-use Rattle.program.specs.Each.{every}
+use lib.Dec.{ltb}
+use lib.ListN.{length, take}
 use borrow.Author.Needs.{needs}
+use Rattle.program.specs.Each.{every}
+use Rattle.format.specs.Limits.{rowLimit}
+use Rattle.read_rows.proofs.Limits.{tested-one, tested-count, tested-all, tested-above}
 use Rattle.read_rows.proofs.numbers_above.Statement.{statement}
 use Rattle.read_rows.proofs.numbers_above.Tie as tie
-use Rattle.read_rows.proofs.numbers_above.Reads as reads
-use Rattle.read_rows.proofs.numbers_above.Lts as lts
 
--- src/lib.rt:265:9
-returns : tie.Need-returns
+abbrev Inv-loop : tie.InvT-loop
+Inv-loop numbers count i₀ i =
+    (i ≤ length numbers) × (i ≤ count) × (every (λ n. ltb n rowLimit) (take i numbers) ≡ true)
+
+abbrev μ-loop : tie.MeasureT-loop
+μ-loop numbers count i₀ i = length numbers - i
+
+loop-holds : tie.Need-loop-holds Inv-loop μ-loop
 unfolding every
-returns c = rw (c .if1 .taken)
+loop-holds c = (omega arith, omega arith, refl)
 
--- src/lib.rt:267:23
-cast-if2 : tie.Need-cast-if2
-cast-if2 c = search needs
+returns : tie.Need-returns Inv-loop μ-loop
+returns c = tested-count _ _ _ (c .before .before .loop .inv .2) (c .before .before .loop .inv .1) (c .if1 .taken)
 
--- src/lib.rt:268:9
-returns-2 : tie.Need-returns-2
-unfolding every
-returns-2 c = let e : c .before .before .before .args .count ≡ suc (c .before .before .before .args .count - 1) = omega arith in rw (e, le-ltb _ _ (c .if2 .taken))
+mul-n : tie.Need-mul-n Inv-loop μ-loop
+mul-n c = search needs
 
--- src/lib.rt:271:9
-returns-3 : tie.Need-returns-3
-unfolding every
-returns-3 c = rw (c .if3 .taken, lt-ltb _ _ (c .before .if2 .left))
+shared-slice-read-n : tie.Need-shared-slice-read-n Inv-loop μ-loop
+shared-slice-read-n c = search needs
 
--- src/lib.rt:273:23
-cast-if4 : tie.Need-cast-if4
-cast-if4 c = search needs
+cast-n : tie.Need-cast-n Inv-loop μ-loop
+cast-n c = omega (arith, c .shared-slice-known .given (c .before .before .before .loop .i))
 
--- src/lib.rt:274:9
-returns-4 : tie.Need-returns-4
-unfolding every
-returns-4 c = let e : c .before .before .before .before .before .before .args .count ≡ suc (suc (c .before .before .before .before .before .before .args .count - 2)) = omega arith in rw (e, lt-ltb _ _ (c .before .before .before .if2 .left), le-ltb _ _ (c .if4 .taken))
+returns-2 : tie.Need-returns-2 Inv-loop μ-loop
+returns-2 c = tested-above _ _ _ (c .before .before .if1 .left) (c .before .before .before .loop-test .taken) (c .if2 .taken)
 
--- src/lib.rt:277:9
-returns-5 : tie.Need-returns-5
-unfolding every
-returns-5 c = rw (c .if5 .taken, lt-ltb _ _ (c .before .before .before .before .if2 .left), lt-ltb _ _ (c .before .if4 .left))
+add-i : tie.Need-add-i Inv-loop μ-loop
+add-i c = search needs
 
--- src/lib.rt:279:23
-cast-if6 : tie.Need-cast-if6
-cast-if6 c = search needs
+loop-less : tie.Need-loop-less Inv-loop μ-loop
+loop-less c = search needs
 
--- src/lib.rt:280:9
-returns-6 : tie.Need-returns-6
-unfolding every
-returns-6 c = let e : c .before .before .before .before .before .before .before .before .before .args .count ≡ suc (suc (suc (c .before .before .before .before .before .before .before .before .before .args .count - 3))) = omega arith in rw (e, lt-ltb _ _ (c .before .before .before .before .before .before .if2 .left), lt-ltb _ _ (c .before .before .before .if4 .left), le-ltb _ _ (c .if6 .taken))
+loop-again : tie.Need-loop-again Inv-loop μ-loop
+loop-again c = (omega arith, omega arith, tested-one _ _ 0 (c .before .before .before .before .loop .inv .2) (c .before .before .before .loop-test .taken) (c .if2 .left))
 
--- src/lib.rt:283:9
-returns-7 : tie.Need-returns-7
-unfolding every
-returns-7 c = rw (c .if7 .taken, lt-ltb _ _ (c .before .before .before .before .before .before .before .if2 .left), lt-ltb _ _ (c .before .before .before .before .if4 .left), lt-ltb _ _ (c .before .if6 .left))
-
--- src/lib.rt:285:23
-cast-if8 : tie.Need-cast-if8
-cast-if8 c = search needs
-
--- src/lib.rt:286:9
-returns-8 : tie.Need-returns-8
-unfolding every
-returns-8 c = let e : c .before .before .before .before .before .before .before .before .before .before .before .before .args .count ≡ suc (suc (suc (suc (c .before .before .before .before .before .before .before .before .before .before .before .before .args .count - 4)))) = omega arith in rw (e, lt-ltb _ _ (c .before .before .before .before .before .before .before .before .before .if2 .left), lt-ltb _ _ (c .before .before .before .before .before .before .if4 .left), lt-ltb _ _ (c .before .before .before .if6 .left), le-ltb _ _ (c .if8 .taken))
-
--- src/lib.rt:289:9
-returns-9 : tie.Need-returns-9
-unfolding every
-returns-9 c = rw (c .if9 .taken, lt-ltb _ _ (c .before .before .before .before .before .before .before .before .before .before .if2 .left), lt-ltb _ _ (c .before .before .before .before .before .before .before .if4 .left), lt-ltb _ _ (c .before .before .before .before .if6 .left), lt-ltb _ _ (c .before .if8 .left))
-
--- src/lib.rt:291:23
-cast-if10 : tie.Need-cast-if10
-cast-if10 c = search needs
-
--- src/lib.rt:292:9
-returns-10 : tie.Need-returns-10
-unfolding every
-returns-10 c = let e : c .before .before .before .before .before .before .before .before .before .before .before .before .before .before .before .args .count ≡ suc (suc (suc (suc (suc (c .before .before .before .before .before .before .before .before .before .before .before .before .before .before .before .args .count - 5))))) = omega arith in rw (e, lt-ltb _ _ (c .before .before .before .before .before .before .before .before .before .before .before .before .if2 .left), lt-ltb _ _ (c .before .before .before .before .before .before .before .before .before .if4 .left), lt-ltb _ _ (c .before .before .before .before .before .before .if6 .left), lt-ltb _ _ (c .before .before .before .if8 .left), le-ltb _ _ (c .if10 .taken))
-
--- src/lib.rt:261:1
-returns-11 : tie.Need-returns-11
-unfolding every
-returns-11 c = let e : c .before .before .before .before .before .before .before .before .before .before .before .before .before .before .before .args .count ≡ suc (suc (suc (suc (suc (c .before .before .before .before .before .before .before .before .before .before .before .before .before .before .before .args .count - 5))))) = omega arith in rw (e, lt-ltb _ _ (c .before .before .before .before .before .before .before .before .before .before .before .before .if2 .left), lt-ltb _ _ (c .before .before .before .before .before .before .before .before .before .if4 .left), lt-ltb _ _ (c .before .before .before .before .before .before .if6 .left), lt-ltb _ _ (c .before .before .before .if8 .left), lt-ltb _ _ (c .if10 .left), take-nil (c .before .before .before .before .before .before .before .before .before .before .before .before .before .before .before .args .count - 5))
+returns-3 : tie.Need-returns-3 Inv-loop μ-loop
+returns-3 c = tested-all _ _ _ (c .before .loop .inv .2) (c .before .loop .inv .1) (c .loop-test .left)
 
 pub numbers-above-spec : {M : Type 1} → statement M
 numbers-above-spec =
     tie.close
     (tie.spec
+    Inv-loop
+    μ-loop
+    loop-holds
     returns
-    cast-if2
+    mul-n
+    shared-slice-read-n
+    cast-n
     returns-2
-    returns-3
-    cast-if4
-    returns-4
-    returns-5
-    cast-if6
-    returns-6
-    returns-7
-    cast-if8
-    returns-8
-    returns-9
-    cast-if10
-    returns-10
-    returns-11)
+    add-i
+    loop-less
+    loop-again
+    returns-3)

@@ -34,7 +34,13 @@ enum-told-2 c = search needs
 
 returns-2 : tie.Need-returns-2
 unfolding readBind ascii _>>=_
-returns-2 c = rw (← (c .before .before .before .before .before .before .expect .ensures), c .before .before .before .before .p .given .1, ← (c .before .before .read-form .ensures .reads), c .enum-told2 .given .1)
+returns-2 c =
+    rw (
+      ← (c .before .before .before .before .before .before .expect .ensures),
+      c .before .before .before .before .p .given .1,
+      ← (c .before .before .read-form .ensures .reads),
+      c .enum-told2 .given .1,
+    )
 
 read-argument-requires : tie.Need-read-argument-requires
 read-argument-requires c κs = search needs
@@ -47,7 +53,16 @@ enum-told-3 c = search needs
 
 returns-3 : tie.Need-returns-3
 unfolding readBind ascii _>>=_
-returns-3 c = rw (← (c .before .before .before .before .before .before .before .before .before .before .expect .ensures), c .before .before .before .before .before .before .before .before .p .given .1, ← (c .before .before .before .before .before .before .read-form .ensures .reads), c .before .before .before .before .kind .given .1, ← (c .before .before .read-argument .ensures), c .enum-told3 .given .1)
+returns-3 c =
+    let c8 = c .before .before .before .before .before .before .before .before in
+    rw (
+      ← (c8 .before .before .expect .ensures),
+      c8 .p .given .1,
+      ← (c .before .before .before .before .before .before .read-form .ensures .reads),
+      c .before .before .before .before .kind .given .1,
+      ← (c .before .before .read-argument .ensures),
+      c .enum-told3 .given .1,
+    )
 
 slice-aggregate-expect-2 : tie.Need-slice-aggregate-expect-2
 slice-aggregate-expect-2 c = search needs
@@ -63,11 +78,36 @@ enum-told-4 c = search needs
 
 returns-4 : tie.Need-returns-4
 unfolding readBind ascii _>>=_
-returns-4 c = rw (← (c .before .before .before .before .before .before .before .before .before .before .before .before .before .before .before .expect .ensures), c .before .before .before .before .before .before .before .before .before .before .before .before .before .p .given .1, ← (c .before .before .before .before .before .before .before .before .before .before .before .read-form .ensures .reads), c .before .before .before .before .before .before .before .before .before .kind .given .1, ← (c .before .before .before .before .before .before .before .read-argument .ensures), c .before .before .before .before .before .rest .given .1, ← (c .before .before .expect2 .ensures), c .enum-told4 .given .1)
+returns-4 c =
+    let c8 = c .before .before .before .before .before .before .before .before in
+    rw (
+      ← (c8 .before .before .before .before .before .before .before .expect .ensures),
+      c8 .before .before .before .before .before .p .given .1,
+      ← (c8 .before .before .before .read-form .ensures .reads),
+      c8 .before .kind .given .1,
+      ← (c .before .before .before .before .before .before .before .read-argument .ensures),
+      c .before .before .before .before .before .rest .given .1,
+      ← (c .before .before .expect2 .ensures),
+      c .enum-told4 .given .1,
+    )
 
 returns-5 : tie.Need-returns-5
 unfolding readBind rawRow ascii _>>=_
-returns-5 c = rw (← (c .before .before .before .before .before .before .before .before .before .before .before .before .before .before .before .before .expect .ensures), c .before .before .before .before .before .before .before .before .before .before .before .before .before .before .p .given .1, ← (c .before .before .before .before .before .before .before .before .before .before .before .before .read-form .ensures .reads), c .before .before .before .before .before .before .before .before .before .before .kind .given .1, ← (c .before .before .before .before .before .before .before .before .read-argument .ensures), c .before .before .before .before .before .before .rest .given .1, ← (c .before .before .before .expect2 .ensures), c .before .next .given .1, rw (c .before .before .before .before .before .before .before .before .before .before .kind .given .1) at (c .before .before .before .before .before .before .before .before .before .before .before .before .read-form .ensures .no-result))
+returns-5 c =
+    let c8 = c .before .before .before .before .before .before .before .before in
+    let c16 = c8 .before .before .before .before .before .before .before .before in
+    rw (
+      ← (c16 .expect .ensures),
+      c8 .before .before .before .before .before .before .p .given .1,
+      ← (c8 .before .before .before .before .read-form .ensures .reads),
+      c8 .before .before .kind .given .1,
+      ← (c8 .read-argument .ensures),
+      c .before .before .before .before .before .before .rest .given .1,
+      ← (c .before .before .before .expect2 .ensures),
+      c .before .next .given .1,
+      rw
+          (c8 .before .before .kind .given .1) at (c8 .before .before .before .before .read-form .ensures .no-result),
+    )
 
 pub read-bind-spec : {M : Type 1} → statement M
 read-bind-spec =

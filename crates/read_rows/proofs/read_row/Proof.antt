@@ -26,14 +26,28 @@ enum-told c = search needs
 
 returns : tie.Need-returns
 unfolding readRow rowWords oneOf ascii _>>=_
-returns c = rw (← (c .before .before .before .before .before .before .expect .ensures), c .before .before .before .before .p .given .1, oneOf, ← (c .before .before .read-argument .ensures), c .enum-told .given .1)
+returns c =
+    rw (
+      ← (c .before .before .before .before .before .before .expect .ensures),
+      c .before .before .before .before .p .given .1,
+      oneOf,
+      ← (c .before .before .read-argument .ensures),
+      c .enum-told .given .1,
+    )
 
 read-result-requires : tie.Need-read-result-requires
 read-result-requires c κs = search needs
 
 returns-2 : tie.Need-returns-2
 unfolding readRow rowWords oneOf ascii _>>=_
-returns-2 c = rw (← (c .before .before .before .before .before .before .before .before .expect .ensures), c .before .before .before .before .before .before .p .given .1, oneOf, ← (c .before .before .before .before .read-argument .ensures), c .before .before .name .given .1) (c .read-result .ensures)
+returns-2 c =
+    rw (
+      ← (c .before .before .before .before .before .before .before .before .expect .ensures),
+      c .before .before .before .before .before .before .p .given .1,
+      oneOf,
+      ← (c .before .before .before .before .read-argument .ensures),
+      c .before .before .name .given .1,
+    ) (c .read-result .ensures)
 
 enum-told-2 : tie.Need-enum-told-2
 enum-told-2 c = search needs
@@ -52,7 +66,15 @@ enum-told-3 c = search needs
 
 returns-3 : tie.Need-returns-3
 unfolding readRow rowWords oneOf ascii _>>=_
-returns-3 c = rw (← (c .before .before .before .before .before .before .expect .ensures), c .before .before .before .before .enum-told2 .given .1, oneOf, ← (c .before .before .expect2 .ensures), c .enum-told3 .given .1, oneOf)
+returns-3 c =
+    rw (
+      ← (c .before .before .before .before .before .before .expect .ensures),
+      c .before .before .before .before .enum-told2 .given .1,
+      oneOf,
+      ← (c .before .before .expect2 .ensures),
+      c .enum-told3 .given .1,
+      oneOf,
+    )
 
 read-argument-requires-2 : tie.Need-read-argument-requires-2
 read-argument-requires-2 c κs = search needs
@@ -65,14 +87,36 @@ enum-told-4 c = search needs
 
 returns-4 : tie.Need-returns-4
 unfolding readRow rowWords oneOf ascii _>>=_
-returns-4 c = rw (← (c .before .before .before .before .before .before .before .before .before .before .expect .ensures), c .before .before .before .before .before .before .before .before .enum-told2 .given .1, oneOf, ← (c .before .before .before .before .before .before .expect2 .ensures), c .before .before .before .before .p2 .given .1, oneOf, ← (c .before .before .read-argument2 .ensures), c .enum-told4 .given .1)
+returns-4 c =
+    let c8 = c .before .before .before .before .before .before .before .before in
+    rw (
+      ← (c8 .before .before .expect .ensures),
+      c8 .enum-told2 .given .1,
+      oneOf,
+      ← (c .before .before .before .before .before .before .expect2 .ensures),
+      c .before .before .before .before .p2 .given .1,
+      oneOf,
+      ← (c .before .before .read-argument2 .ensures),
+      c .enum-told4 .given .1,
+    )
 
 read-bind-requires : tie.Need-read-bind-requires
 read-bind-requires c κs = search needs
 
 returns-5 : tie.Need-returns-5
 unfolding readRow rowWords oneOf ascii _>>=_
-returns-5 c = rw (← (c .before .before .before .before .before .before .before .before .before .before .before .before .expect .ensures), c .before .before .before .before .before .before .before .before .before .before .enum-told2 .given .1, oneOf, ← (c .before .before .before .before .before .before .before .before .expect2 .ensures), c .before .before .before .before .before .before .p2 .given .1, oneOf, ← (c .before .before .before .before .read-argument2 .ensures), c .before .before .name2 .given .1) (c .read-bind .ensures)
+returns-5 c =
+    let c8 = c .before .before .before .before .before .before .before .before in
+    rw (
+      ← (c8 .before .before .before .before .expect .ensures),
+      c8 .before .before .enum-told2 .given .1,
+      oneOf,
+      ← (c8 .expect2 .ensures),
+      c .before .before .before .before .before .before .p2 .given .1,
+      oneOf,
+      ← (c .before .before .before .before .read-argument2 .ensures),
+      c .before .before .name2 .given .1,
+    ) (c .read-bind .ensures)
 
 pub read-row-spec : {M : Type 1} → statement M
 read-row-spec =

@@ -32,7 +32,19 @@ low-requires-7 : tie.Need-low-requires-7
 low-requires-7 c κs = search needs
 
 returns-2 : tie.Need-returns-2
-returns-2 c = rw (c .before .form-of .ensures, c .before .before .before .before .before .before .before .before .low .ensures, c .before .before .before .before .before .before .low2 .ensures, c .before .before .before .before .before .low3 .ensures, c .before .before .before .before .low4 .ensures, c .before .before .before .low5 .ensures, c .before .before .low6 .ensures, c .low7 .ensures) (low-bind _ (c .before .before .before .before .before .before .before .if1 .left) (c .before .before .before .before .before .before .before .before .before .pre))
+returns-2 c =
+    let c8 = c .before .before .before .before .before .before .before .before in
+    rw (
+      c .before .form-of .ensures,
+      c8 .low .ensures,
+      c .before .before .before .before .before .before .low2 .ensures,
+      c .before .before .before .before .before .low3 .ensures,
+      c .before .before .before .before .low4 .ensures,
+      c .before .before .before .low5 .ensures,
+      c .before .before .low6 .ensures,
+      c .low7 .ensures,
+    )
+    (low-bind _ (c .before .before .before .before .before .before .before .if1 .left) (c8 .before .pre))
 
 pub row-of-spec : {M : Type 1} → statement M
 row-of-spec =

@@ -36,7 +36,10 @@ same-length : tie.Need-same-length Inv-loop μ-loop
 same-length c = search needs
 
 returns : tie.Need-returns Inv-loop μ-loop
-returns c = (c .before .before .before .before .before .before .loop .inv .1) _ _ (members-end _ _ _ _ _ _ _ (c .before .before .before .before .before .loop-test .taken) (sym (rw (c .before .end .given .1) at (c .before .before .before .expect .ensures))))
+returns c =
+    (c .before .before .before .before .before .before .loop .inv .1) _ _
+    (members-end _ _ _ _ _ _ _ (c .before .before .before .before .before .loop-test .taken)
+    (sym (rw (c .before .end .given .1) at (c .before .before .before .expect .ensures))))
 
 enum-told : tie.Need-enum-told Inv-loop μ-loop
 enum-told c = search needs
@@ -54,7 +57,11 @@ same-length-2 : tie.Need-same-length-2 Inv-loop μ-loop
 same-length-2 c = search needs
 
 returns-2 : tie.Need-returns-2 Inv-loop μ-loop
-returns-2 c = (c .before .before .before .before .before .before .before .before .loop .inv .1) _ _ (members-stop _ _ _ _ _ _ _ (sym (rw (c .before .before .before .enum-told .given .1) at (c .before .before .before .before .before .expect .ensures))) (sym (rw (c .enum-told2 .given .1) at (c .before .before .read-argument .ensures))))
+returns-2 c =
+    (c .before .before .before .before .before .before .before .before .loop .inv .1) _ _
+    (members-stop _ _ _ _ _ _ _ (sym (rw (c .before .before .before .enum-told .given .1) at
+    (c .before .before .before .before .before .expect .ensures)))
+    (sym (rw (c .enum-told2 .given .1) at (c .before .before .read-argument .ensures))))
 
 cast-m : tie.Need-cast-m Inv-loop μ-loop
 cast-m c = search needs
@@ -78,13 +85,15 @@ loop-less : tie.Need-loop-less Inv-loop μ-loop
 loop-less c = search needs
 
 loop-again : tie.Need-loop-again Inv-loop μ-loop
-loop-again c = (
-  search needs,
-  λ r m t.
-      (c .before .before .before .before .before .before .before .before .before .before .before .before .before .before .loop .inv .1) r m
-      (members-row _ _ _ _ _ _ _ _ (c .before .before .before .before .before .before .before .before .before .before .before .before .before .loop-test .taken) (sym (rw (c .before .before .before .before .before .before .before .before .before .enum-told .given .1) at (c .before .before .before .before .before .before .before .before .before .before .before .expect .ensures))) (sym (rw (c .before .before .before .before .before .before .n .given .1) at (c .before .before .before .before .before .before .before .before .read-argument .ensures))) r m
-      (rw (← (c .before .before .before .before .fault-after .ensures), ← (c .before .before .mark .ensures)) t)),
-)
+loop-again c =
+    let c8 = c .before .before .before .before .before .before .before .before in (
+      search needs,
+      λ r m t. (c8 .before .before .before .before .before .before .loop .inv .1) r m
+          (members-row _ _ _ _ _ _ _ _ (c8 .before .before .before .before .before .loop-test .taken)
+          (sym (rw (c8 .before .enum-told .given .1) at (c8 .before .before .before .expect .ensures)))
+          (sym (rw (c .before .before .before .before .before .before .n .given .1) at (c8 .read-argument .ensures))) r m
+          (rw (← (c .before .before .before .before .fault-after .ensures), ← (c .before .before .mark .ensures)) t)),
+    )
 
 same-length-3 : tie.Need-same-length-3 Inv-loop μ-loop
 same-length-3 c = search needs

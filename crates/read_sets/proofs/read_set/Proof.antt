@@ -43,7 +43,12 @@ same-length : tie.Need-same-length
 same-length c = search needs
 
 returns-2 : tie.Need-returns-2
-returns-2 c = set-unit _ _ _ _ (sym (rw (c .before .before .before .before .before .before .before .before .before .before .before .before .before .before .p .given .1) at (c .before .before .before .before .before .before .before .before .before .before .before .before .before .before .before .before .expect .ensures))) _ (sym (rw (c .before .before .before .before .before .before .before .before .before .q .given .1) at (c .before .before .before .before .before .before .before .before .before .before .before .expect2 .ensures))) _ _ (rw (c .before .before .before .before .before .before .mark .ensures) at (c .before .before .read-members .ensures))
+returns-2 c =
+    let c8 = c .before .before .before .before .before .before .before .before in
+    let c16 = c8 .before .before .before .before .before .before .before .before in
+    set-unit _ _ _ _ (sym (rw (c8 .before .before .before .before .before .before .p .given .1) at (c16 .expect .ensures))) _
+    (sym (rw (c8 .before .q .given .1) at (c8 .before .before .before .expect2 .ensures))) _ _
+    (rw (c .before .before .before .before .before .before .mark .ensures) at (c .before .before .read-members .ensures))
 
 enum-told-2 : tie.Need-enum-told-2
 enum-told-2 c = search needs
@@ -58,7 +63,11 @@ enum-told-3 : tie.Need-enum-told-3
 enum-told-3 c = search needs
 
 returns-3 : tie.Need-returns-3
-returns-3 c = set-stop _ _ _ _ (sym (rw (c .before .before .before .before .before .before .before .before .p .given .1) at (c .before .before .before .before .before .before .before .before .before .before .expect .ensures))) _ (sym (rw (c .before .before .before .enum-told2 .given .1) at (c .before .before .before .before .before .expect2 .ensures))) (sym (rw (c .enum-told3 .given .1) at (c .before .before .read-number .ensures)))
+returns-3 c =
+    let c8 = c .before .before .before .before .before .before .before .before in
+    set-stop _ _ _ _ (sym (rw (c8 .p .given .1) at (c8 .before .before .expect .ensures))) _
+    (sym (rw (c .before .before .before .enum-told2 .given .1) at (c .before .before .before .before .before .expect2 .ensures)))
+    (sym (rw (c .enum-told3 .given .1) at (c .before .before .read-number .ensures)))
 
 cast-m : tie.Need-cast-m
 cast-m c = search needs
@@ -82,7 +91,14 @@ same-length-2 : tie.Need-same-length-2
 same-length-2 c = search needs
 
 returns-4 : tie.Need-returns-4
-returns-4 c = set-row _ _ _ _ (sym (rw (c .before .before .before .before .before .before .before .before .before .before .before .before .before .before .before .before .before .before .p .given .1) at (c .before .before .before .before .before .before .before .before .before .before .before .before .before .before .before .before .before .before .before .before .expect .ensures))) _ _ (sym (rw (c .before .before .before .before .before .before .before .before .before .before .before .before .before .enum-told2 .given .1) at (c .before .before .before .before .before .before .before .before .before .before .before .before .before .before .before .expect2 .ensures))) (sym (rw (c .before .before .before .before .before .before .before .before .before .before .n .given .1) at (c .before .before .before .before .before .before .before .before .before .before .before .before .read-number .ensures))) _ _ (rw (c .before .before .before .before .before .before .mark2 .ensures, c .before .before .before .before .before .before .before .before .fault-after .ensures) at (c .before .before .read-members2 .ensures))
+returns-4 c =
+    let c8 = c .before .before .before .before .before .before .before .before in
+    let c16 = c8 .before .before .before .before .before .before .before .before in
+    set-row _ _ _ _ (sym (rw (c16 .before .before .p .given .1) at (c16 .before .before .before .before .expect .ensures))) _ _
+    (sym (rw (c8 .before .before .before .before .before .enum-told2 .given .1) at
+    (c8 .before .before .before .before .before .before .before .expect2 .ensures)))
+    (sym (rw (c8 .before .before .n .given .1) at (c8 .before .before .before .before .read-number .ensures))) _ _
+    (rw (c .before .before .before .before .before .before .mark2 .ensures, c8 .fault-after .ensures) at (c .before .before .read-members2 .ensures))
 
 pub read-set-spec : {M : Type 1} → statement M
 read-set-spec =

@@ -32,7 +32,15 @@ enum-known-p-2 c = search needs
 
 returns-2 : tie.Need-returns-2
 unfolding oneOf lineWords ascii
-returns-2 c = rw (← (c .before .before .before .before .before .before .before .expect .ensures), c .before .before .before .before .before .enum-told .given .1, oneOf, ← (c .before .before .before .expect2 .ensures), c .before .p2 .given .1, oneOf)
+returns-2 c =
+    rw (
+      ← (c .before .before .before .before .before .before .before .expect .ensures),
+      c .before .before .before .before .before .enum-told .given .1,
+      oneOf,
+      ← (c .before .before .before .expect2 .ensures),
+      c .before .p2 .given .1,
+      oneOf,
+    )
 
 enum-told-2 : tie.Need-enum-told-2
 enum-told-2 c = search needs
@@ -48,7 +56,19 @@ enum-known-p-3 c = search needs
 
 returns-3 : tie.Need-returns-3
 unfolding oneOf lineWords ascii
-returns-3 c = rw (← (c .before .before .before .before .before .before .before .before .before .before .before .expect .ensures), c .before .before .before .before .before .before .before .before .before .enum-told .given .1, oneOf, ← (c .before .before .before .before .before .before .before .expect2 .ensures), c .before .before .before .before .before .enum-told2 .given .1, oneOf, ← (c .before .before .before .expect3 .ensures), c .before .p3 .given .1, oneOf)
+returns-3 c =
+    let c8 = c .before .before .before .before .before .before .before .before in
+    rw (
+      ← (c8 .before .before .before .expect .ensures),
+      c8 .before .enum-told .given .1,
+      oneOf,
+      ← (c .before .before .before .before .before .before .before .expect2 .ensures),
+      c .before .before .before .before .before .enum-told2 .given .1,
+      oneOf,
+      ← (c .before .before .before .expect3 .ensures),
+      c .before .p3 .given .1,
+      oneOf,
+    )
 
 enum-told-3 : tie.Need-enum-told-3
 enum-told-3 c = search needs
@@ -64,14 +84,44 @@ enum-known-p-4 c = search needs
 
 returns-4 : tie.Need-returns-4
 unfolding oneOf lineWords ascii
-returns-4 c = rw (← (c .before .before .before .before .before .before .before .before .before .before .before .before .before .before .before .expect .ensures), c .before .before .before .before .before .before .before .before .before .before .before .before .before .enum-told .given .1, oneOf, ← (c .before .before .before .before .before .before .before .before .before .before .before .expect2 .ensures), c .before .before .before .before .before .before .before .before .before .enum-told2 .given .1, oneOf, ← (c .before .before .before .before .before .before .before .expect3 .ensures), c .before .before .before .before .before .enum-told3 .given .1, oneOf, ← (c .before .before .before .expect4 .ensures), c .before .p4 .given .1, oneOf)
+returns-4 c =
+    let c8 = c .before .before .before .before .before .before .before .before in
+    rw (
+      ← (c8 .before .before .before .before .before .before .before .expect .ensures),
+      c8 .before .before .before .before .before .enum-told .given .1,
+      oneOf,
+      ← (c8 .before .before .before .expect2 .ensures),
+      c8 .before .enum-told2 .given .1,
+      oneOf,
+      ← (c .before .before .before .before .before .before .before .expect3 .ensures),
+      c .before .before .before .before .before .enum-told3 .given .1,
+      oneOf,
+      ← (c .before .before .before .expect4 .ensures),
+      c .before .p4 .given .1,
+      oneOf,
+    )
 
 enum-told-4 : tie.Need-enum-told-4
 enum-told-4 c = search needs
 
 returns-5 : tie.Need-returns-5
 unfolding oneOf lineWords ascii
-returns-5 c = rw (← (c .before .before .before .before .before .before .before .before .before .before .before .before .before .before .expect .ensures), c .before .before .before .before .before .before .before .before .before .before .before .before .enum-told .given .1, oneOf, ← (c .before .before .before .before .before .before .before .before .before .before .expect2 .ensures), c .before .before .before .before .before .before .before .before .enum-told2 .given .1, oneOf, ← (c .before .before .before .before .before .before .expect3 .ensures), c .before .before .before .before .enum-told3 .given .1, oneOf, ← (c .before .before .expect4 .ensures), c .enum-told4 .given .1, oneOf)
+returns-5 c =
+    let c8 = c .before .before .before .before .before .before .before .before in
+    rw (
+      ← (c8 .before .before .before .before .before .before .expect .ensures),
+      c8 .before .before .before .before .enum-told .given .1,
+      oneOf,
+      ← (c8 .before .before .expect2 .ensures),
+      c8 .enum-told2 .given .1,
+      oneOf,
+      ← (c .before .before .before .before .before .before .expect3 .ensures),
+      c .before .before .before .before .enum-told3 .given .1,
+      oneOf,
+      ← (c .before .before .expect4 .ensures),
+      c .enum-told4 .given .1,
+      oneOf,
+    )
 
 pub read-section-spec : {M : Type 1} → statement M
 read-section-spec =

@@ -32,7 +32,15 @@ enum-known-p-2 c = search needs
 
 returns-2 : tie.Need-returns-2
 unfolding oneOf claimWords ascii
-returns-2 c = rw (← (c .before .before .before .before .before .before .before .expect .ensures), c .before .before .before .before .before .enum-told .given .1, oneOf, ← (c .before .before .before .expect2 .ensures), c .before .p2 .given .1, oneOf)
+returns-2 c =
+    rw (
+      ← (c .before .before .before .before .before .before .before .expect .ensures),
+      c .before .before .before .before .before .enum-told .given .1,
+      oneOf,
+      ← (c .before .before .before .expect2 .ensures),
+      c .before .p2 .given .1,
+      oneOf,
+    )
 
 enum-told-2 : tie.Need-enum-told-2
 enum-told-2 c = search needs
@@ -48,7 +56,19 @@ enum-known-p-3 c = search needs
 
 returns-3 : tie.Need-returns-3
 unfolding oneOf claimWords ascii
-returns-3 c = rw (← (c .before .before .before .before .before .before .before .before .before .before .before .expect .ensures), c .before .before .before .before .before .before .before .before .before .enum-told .given .1, oneOf, ← (c .before .before .before .before .before .before .before .expect2 .ensures), c .before .before .before .before .before .enum-told2 .given .1, oneOf, ← (c .before .before .before .expect3 .ensures), c .before .p3 .given .1, oneOf)
+returns-3 c =
+    let c8 = c .before .before .before .before .before .before .before .before in
+    rw (
+      ← (c8 .before .before .before .expect .ensures),
+      c8 .before .enum-told .given .1,
+      oneOf,
+      ← (c .before .before .before .before .before .before .before .expect2 .ensures),
+      c .before .before .before .before .before .enum-told2 .given .1,
+      oneOf,
+      ← (c .before .before .before .expect3 .ensures),
+      c .before .p3 .given .1,
+      oneOf,
+    )
 
 enum-told-3 : tie.Need-enum-told-3
 enum-told-3 c = search needs
@@ -64,7 +84,22 @@ enum-known-p-4 c = search needs
 
 returns-4 : tie.Need-returns-4
 unfolding oneOf claimWords ascii
-returns-4 c = rw (← (c .before .before .before .before .before .before .before .before .before .before .before .before .before .before .before .expect .ensures), c .before .before .before .before .before .before .before .before .before .before .before .before .before .enum-told .given .1, oneOf, ← (c .before .before .before .before .before .before .before .before .before .before .before .expect2 .ensures), c .before .before .before .before .before .before .before .before .before .enum-told2 .given .1, oneOf, ← (c .before .before .before .before .before .before .before .expect3 .ensures), c .before .before .before .before .before .enum-told3 .given .1, oneOf, ← (c .before .before .before .expect4 .ensures), c .before .p4 .given .1, oneOf)
+returns-4 c =
+    let c8 = c .before .before .before .before .before .before .before .before in
+    rw (
+      ← (c8 .before .before .before .before .before .before .before .expect .ensures),
+      c8 .before .before .before .before .before .enum-told .given .1,
+      oneOf,
+      ← (c8 .before .before .before .expect2 .ensures),
+      c8 .before .enum-told2 .given .1,
+      oneOf,
+      ← (c .before .before .before .before .before .before .before .expect3 .ensures),
+      c .before .before .before .before .before .enum-told3 .given .1,
+      oneOf,
+      ← (c .before .before .before .expect4 .ensures),
+      c .before .p4 .given .1,
+      oneOf,
+    )
 
 enum-told-4 : tie.Need-enum-told-4
 enum-told-4 c = search needs
@@ -80,14 +115,52 @@ enum-known-p-5 c = search needs
 
 returns-5 : tie.Need-returns-5
 unfolding oneOf claimWords ascii
-returns-5 c = rw (← (c .before .before .before .before .before .before .before .before .before .before .before .before .before .before .before .before .before .before .before .expect .ensures), c .before .before .before .before .before .before .before .before .before .before .before .before .before .before .before .before .before .enum-told .given .1, oneOf, ← (c .before .before .before .before .before .before .before .before .before .before .before .before .before .before .before .expect2 .ensures), c .before .before .before .before .before .before .before .before .before .before .before .before .before .enum-told2 .given .1, oneOf, ← (c .before .before .before .before .before .before .before .before .before .before .before .expect3 .ensures), c .before .before .before .before .before .before .before .before .before .enum-told3 .given .1, oneOf, ← (c .before .before .before .before .before .before .before .expect4 .ensures), c .before .before .before .before .before .enum-told4 .given .1, oneOf, ← (c .before .before .before .expect5 .ensures), c .before .p5 .given .1, oneOf)
+returns-5 c =
+    let c8 = c .before .before .before .before .before .before .before .before in
+    let c16 = c8 .before .before .before .before .before .before .before .before in
+    rw (
+      ← (c16 .before .before .before .expect .ensures),
+      c16 .before .enum-told .given .1,
+      oneOf,
+      ← (c8 .before .before .before .before .before .before .before .expect2 .ensures),
+      c8 .before .before .before .before .before .enum-told2 .given .1,
+      oneOf,
+      ← (c8 .before .before .before .expect3 .ensures),
+      c8 .before .enum-told3 .given .1,
+      oneOf,
+      ← (c .before .before .before .before .before .before .before .expect4 .ensures),
+      c .before .before .before .before .before .enum-told4 .given .1,
+      oneOf,
+      ← (c .before .before .before .expect5 .ensures),
+      c .before .p5 .given .1,
+      oneOf,
+    )
 
 enum-told-5 : tie.Need-enum-told-5
 enum-told-5 c = search needs
 
 returns-6 : tie.Need-returns-6
 unfolding oneOf claimWords ascii
-returns-6 c = rw (← (c .before .before .before .before .before .before .before .before .before .before .before .before .before .before .before .before .before .before .expect .ensures), c .before .before .before .before .before .before .before .before .before .before .before .before .before .before .before .before .enum-told .given .1, oneOf, ← (c .before .before .before .before .before .before .before .before .before .before .before .before .before .before .expect2 .ensures), c .before .before .before .before .before .before .before .before .before .before .before .before .enum-told2 .given .1, oneOf, ← (c .before .before .before .before .before .before .before .before .before .before .expect3 .ensures), c .before .before .before .before .before .before .before .before .enum-told3 .given .1, oneOf, ← (c .before .before .before .before .before .before .expect4 .ensures), c .before .before .before .before .enum-told4 .given .1, oneOf, ← (c .before .before .expect5 .ensures), c .enum-told5 .given .1, oneOf)
+returns-6 c =
+    let c8 = c .before .before .before .before .before .before .before .before in
+    let c16 = c8 .before .before .before .before .before .before .before .before in
+    rw (
+      ← (c16 .before .before .expect .ensures),
+      c16 .enum-told .given .1,
+      oneOf,
+      ← (c8 .before .before .before .before .before .before .expect2 .ensures),
+      c8 .before .before .before .before .enum-told2 .given .1,
+      oneOf,
+      ← (c8 .before .before .expect3 .ensures),
+      c8 .enum-told3 .given .1,
+      oneOf,
+      ← (c .before .before .before .before .before .before .expect4 .ensures),
+      c .before .before .before .before .enum-told4 .given .1,
+      oneOf,
+      ← (c .before .before .expect5 .ensures),
+      c .enum-told5 .given .1,
+      oneOf,
+    )
 
 pub read-word-spec : {M : Type 1} → statement M
 read-word-spec =

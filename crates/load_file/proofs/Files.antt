@@ -1,0 +1,182 @@
+-- A file that has been read into a store: its document is the store's, and what load leaves of it.
+use Prim.Native.Nat.{ℕ, zero, suc, _+_, _*_, _≤_, _<_}
+use mathlib.Core.Bool.{So}
+use mathlib.Core.List.{_∷_, _++_}
+use mathlib.Core.Option.{none, some}
+use mathlib.Core.Path.{_≡_, refl, sym, ap, _∙_, subst}
+use native.Mathlib.Omega.{arith}
+use lib.ListN.{length, take, drop, replicate, length-replicate, length-append, take-append-drop}
+use lib.Seq.{getD-take, take-at, drop-at}
+use borrow.Author.Tests.{lt-ltb, le-ltb}
+use Rattle.format.specs.declared.Refusal.{Refusal}
+use Rattle.format.specs.declared.Reason.the-variants.{TooLong, StoreTooShort}
+use Rattle.format.specs.Limits.{rowLimit, byteLimit}
+use Rattle.format.specs.Text.{Bytes}
+use Rattle.format.specs.Refusals.{refusal, Result, refused, accepted}
+use Rattle.format.specs.Document.{Document}
+use Rattle.format.specs.WellFormed.{orderly}
+use Rattle.format.specs.Read.{readFile, noLines}
+use Rattle.format.specs.Structure.{structureFault}
+use Rattle.format.specs.Check.{checkStructure, checkAny, check}
+use Rattle.format.proofs.Files.{print-read}
+use Rattle.calls.specs.declared.LoadAnswer.{LoadAnswer}
+use Rattle.calls.specs.Layout.{storeSize, rowSize, counting, decode}
+use Rattle.calls.specs.Calls.{Leaves, counts, refilled, loaded, load}
+use Rattle.calls.specs.Canonical.{countRows}
+use Rattle.calls.proofs.Codec.{decode-encode}
+use Rattle.calls.proofs.Codec.Adding.{encode-none}
+use Rattle.calls.proofs.Codec.Sparse.{counting-length}
+use Rattle.calls.proofs.Canonical.{rows-decoded}
+use Rattle.store.specs.Rows.{storeRow, storeProgram, cellsAt}
+use Rattle.store.proofs.Laws.{row-cells}
+use Rattle.load_lines.specs.declared.Progress.{Progress}
+use Rattle.load_lines.specs.declared.FileRead.{FileRead}
+use Rattle.load_lines.specs.Progress.{Matches, Stored, Past, FileAnswer, FileIs}
+use Rattle.structure.specs.declared.Structure.the-variants.{Refused}
+use Rattle.structure.specs.Lines.{storeDocument}
+use Rattle.structure.proofs.Checking.{document-decodes}
+use Rattle.load_file.specs.Finish.{Finishes}
+
+-- ---- the rows at the head of a slice
+
+head-row : (s : Bytes) (r : ℕ) → r < rowLimit → storeRow (take storeSize s) r ≡ storeRow s r
+unfolding cellsAt
+head-row s r h =
+    let p = r * rowSize in
+    rw (row-cells (take storeSize s) r, row-cells s r)
+    (simp (
+      getD-take storeSize s p 0 (omega arith),
+      getD-take storeSize s (p + 1) 0 (omega arith),
+      getD-take storeSize s (p + 2) 0 (omega arith),
+      getD-take storeSize s (p + 3) 0 (omega arith),
+      getD-take storeSize s (p + 4) 0 (omega arith),
+      getD-take storeSize s (p + 5) 0 (omega arith),
+      getD-take storeSize s (p + 6) 0 (omega arith),
+      getD-take storeSize s (p + 7) 0 (omega arith),
+    ))
+
+counting-same : {A : Type 0} (n i : ℕ) (f g : ℕ → A) → ((r : ℕ) → r < n + i → f r ≡ g r) → counting n i f ≡ counting n i g
+unfolding counting
+counting-same zero i f g h = refl
+counting-same (suc n) i f g h = rw (h i (omega arith)) (ap (λ xs. g i ∷ xs) (counting-same n (suc i) f g λ r l. h r (omega arith)))
+
+module _ (s : Bytes) (d : Document) (ok : So (orderly d)) (held : Stored s d) where
+  decoded : decode (take storeSize s) ≡ d
+  decoded = ap decode held ∙ decode-encode d ok
+
+  rows-here : (n : ℕ) → n ≤ rowLimit → n ≡ countRows rowLimit (take storeSize s) → decode (take storeSize s) .rows ≡ storeProgram n s
+  unfolding storeProgram storeRow
+  rows-here n h e = rows-decoded (take storeSize s) ∙ rw (← e) (counting-same n 0 (storeRow (take storeSize s)) (storeRow s) λ r l. head-row s r (omega arith))
+
+  count-is : length (d .rows) ≡ countRows rowLimit (take storeSize s)
+  count-is = ap (λ (x : Document). length (x .rows)) (sym decoded) ∙ ap length (rows-decoded (take storeSize s)) ∙ counting-length (countRows rowLimit (take storeSize s)) 0 _
+
+  -- the document of the first rows of the store is the one that it holds
+  pub store-document : (n : ℕ) → n ≤ rowLimit → n ≡ length (d .rows) → storeDocument n s ≡ d
+  unfolding decode
+  store-document n h e = sym (document-decodes n s (rows-here n h (e ∙ count-is))) ∙ decoded
+
+-- ---- what load leaves
+
+-- of the lent bytes, only those past the fixed size count
+same-past : (s t : Bytes) (x : Result Document) → drop storeSize s ≡ drop storeSize t → loaded s x ≡ loaded t x
+unfolding loaded refilled
+same-past s t (refused r) e = rw e
+same-past s t (accepted d) e = rw e
+
+pub too-short : (file store : Bytes) → length store < storeSize → Leaves (load file store) (LoadAnswer.Refused (refusal StoreTooShort 0)) store
+unfolding load
+too-short file store l = rw (lt-ltb (length store) storeSize l, load) (record { answer-is = refl; bytes-are = refl })
+
+pub long-enough : (file store : Bytes) {a : LoadAnswer} {left : Bytes} → storeSize ≤ length store → Leaves (loaded store (check file)) a left → Leaves (load file store) a left
+unfolding load
+long-enough file store l h = rw (le-ltb (length store) storeSize l, load) h
+
+pub emptied : (store : Bytes) (r : Refusal) → Leaves (loaded store (refused r)) (LoadAnswer.Refused r) (replicate storeSize 0 ++ drop storeSize store)
+unfolding loaded refilled
+emptied store r = record { answer-is = refl; bytes-are = refl }
+
+pub too-long : (file store : Bytes) {a : LoadAnswer} {left : Bytes} → byteLimit < length file
+    → Leaves (loaded store (refused (refusal TooLong 0))) a left → Leaves (loaded store (check file)) a left
+unfolding check
+too-long file store l h = rw (lt-ltb byteLimit (length file) l, check) h
+
+pub no-lines-stored : (store : Bytes) → Stored (replicate storeSize 0 ++ drop storeSize store) noLines
+no-lines-stored store = take-at (replicate storeSize 0) (drop storeSize store) storeSize (length-replicate {A = ℕ} storeSize 0) ∙ sym encode-none
+
+-- ---- refusals 6 to 9 of a store that holds a document
+
+pub finish-refused : (p : Progress) (s : Bytes) (r : Refusal) {a : LoadAnswer} {left : Bytes} → p .rows ≤ rowLimit → some r ≡ structureFault (storeDocument (p .rows) s)
+    → Leaves (loaded s (refused r)) a left → Finishes p s a left
+unfolding checkStructure
+finish-refused p s r small e h =
+    record {
+      finishes = λ d ok held m.
+          let q : structureFault d ≡ some r = ap structureFault (sym (store-document s d ok held (p .rows) small (sym (m .rows-are)))) ∙ sym e in
+          rw (q, checkStructure) h;
+    }
+
+pub finish-sound : (p : Progress) (s : Bytes) → p .rows ≤ rowLimit → none ≡ structureFault (storeDocument (p .rows) s)
+    → Finishes p s (LoadAnswer.Loaded (record { rows = p .rows; flows = p .flows; comms = p .comms; claims = p .claims })) s
+unfolding checkStructure loaded refilled counts
+finish-sound p s small e =
+    record {
+      finishes = λ d ok held m.
+          let q : structureFault d ≡ none = ap structureFault (sym (store-document s d ok held (p .rows) small (sym (m .rows-are)))) ∙ sym e in
+          rw (q, checkStructure) (record {
+            answer-is = rw (m .rows-are, m .flows-are, m .comms-are, m .claims-are) refl;
+            bytes-are = sym (ap (λ (x : Bytes). x ++ drop storeSize s) (sym held) ∙ take-append-drop storeSize s);
+          });
+    }
+
+-- ---- a whole file
+
+-- what reading the lines leaves to do
+module _ (file store : Bytes) (left : Bytes) (short : length file ≤ byteLimit) where
+  abbrev cleared : Bytes
+  cleared = replicate storeSize 0 ++ drop storeSize store
+
+  check-is : check file ≡ checkStructure (readFile file)
+  unfolding check checkAny
+  check-is = rw (le-ltb byteLimit (length file) short, check)
+
+  past-same : Past cleared left → drop storeSize left ≡ drop storeSize store
+  past-same h = h .rest-stays ∙ drop-at (replicate storeSize 0) (drop storeSize store) storeSize (length-replicate {A = ℕ} storeSize 0)
+
+  pub lines-refused : (r : Refusal) {a : LoadAnswer} {next : Bytes} → FileIs (readFile file) cleared (FileRead.Refused r) left → Leaves (loaded left (refused r)) a next
+      → Leaves (loaded store (check file)) a next
+  unfolding checkStructure
+  lines-refused r {a} {next} h l = go (readFile file) refl (h .answers)
+    where
+      go : (x : Result Document) → readFile file ≡ x → FileAnswer x (FileRead.Refused r) left → Leaves (loaded store (check file)) a next
+      go (refused q) e k =
+          let same : r ≡ q = cc in
+          rw (check-is, e, ← same, ← same-past left store (refused r) (past-same (h .past))) l
+      go (accepted d) e k = let w = k .answer-is in let z : _≡_ {A = ℕ} 0 1 = cc in absurd (omega arith)
+
+  pub lines-accepted : (p : Progress) {a : LoadAnswer} {next : Bytes} → FileIs (readFile file) cleared (FileRead.Accepted p) left → Finishes p left a next
+      → Leaves (loaded store (check file)) a next
+  unfolding checkStructure
+  lines-accepted p {a} {next} h l = go (readFile file) refl (h .answers)
+    where
+      go : (x : Result Document) → readFile file ≡ x → FileAnswer x (FileRead.Accepted p) left → Leaves (loaded store (check file)) a next
+      go (refused q) e k = let z : _≡_ {A = ℕ} 0 1 = cc in absurd (omega arith)
+      go (accepted d) e k =
+          let w = k .answer-is in
+          let same : p ≡ k .progress = cc in
+          rw (check-is, e, ← same-past left store (checkStructure (accepted d)) (past-same (h .past)))
+          (l .finishes d (print-read file d e .1) (k .stored) (subst (λ (q : Progress). Matches d q) (sym same) (k .matches)))
+
+-- the rows of a file that has been read are within the limit
+pub rows-small : (x : Result Document) (p : Progress) {store left : Bytes} → FileIs x store (FileRead.Accepted p) left → p .rows ≤ rowLimit
+rows-small x p {store} {left} h = go x (h .answers)
+  where
+    go : (y : Result Document) → FileAnswer y (FileRead.Accepted p) left → p .rows ≤ rowLimit
+    go (refused r) k = let z : _≡_ {A = ℕ} 0 1 = cc in absurd (omega arith)
+    go (accepted d) k =
+        let w = k .answer-is in
+        let same : p ≡ k .progress = cc in
+        subst (λ (q : Progress). q .rows ≤ rowLimit) (sym same) (subst (λ (n : ℕ). n ≤ rowLimit) (k .matches .rows-are) (k .matches .rows-fit))
+
+pub cleared-long : (store : Bytes) → storeSize ≤ length (replicate storeSize 0 ++ drop storeSize store)
+cleared-long store = rw (length-append (replicate storeSize 0) (drop storeSize store), length-replicate {A = ℕ} storeSize 0) (omega arith)
