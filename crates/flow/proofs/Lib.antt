@@ -1,5 +1,3 @@
 -- Laws about the definitions of specs/.
-pub mod Tests
-pub mod Members
-pub mod Results
-pub mod Asked
+pub mod Failing
+pub mod Keeping

@@ -1,3 +1,2 @@
--- Sets as bytes, the tests of a form over the rows in a set, and the answer.
-pub mod Sets
+-- What a sync asks, and the answer.
 pub mod Rules

@@ -1,17 +1,17 @@
 // The flow rules over the sets of a store: the smallest row whose rule fails.
-use crate::channels::Demand;
-use crate::channels::passing;
-use crate::channels::passing_sends;
-use crate::rows::result_names;
-use crate::rules::Ask;
-use crate::rules::each_passes;
-use crate::sets::flow_lies;
-use crate::sets::flow_set;
-use crate::sets::has_row;
-use crate::sets::has_unit;
+use asks::Ask;
+use asks::Demand;
+use asks::each_passes;
+use asks::has_row;
+use asks::has_unit;
+use asks::passing;
+use asks::passing_sends;
+use asks::result_names;
 use forms::row_in;
 use program::Form;
 use program::Row;
+use sets::flow_lies;
+use sets::flow_set;
 use store::NO_ROW;
 ghost use mathlib.Core.Bool.{true, false, not, _&&_};
 ghost use mathlib.Core.Path.{_≡_};
@@ -23,13 +23,9 @@ ghost use Rattle.format.specs.Limits.{rowLimit};
 ghost use Rattle.calls.specs.Layout.{storeSize};
 ghost use Rattle.store.specs.Rows.{storeProgram};
 ghost use Rattle.tables.specs.Tables.{storeFlow, storeComm};
-ghost use Rattle.flow.specs.Sets.{Sized};
-ghost use Rattle.flow.specs.Rules.{rowOr, Names, Sends, sendTest, syncTest};
-
-mod sets; // sets.rt: sets as bytes, and whether one lies in another
-mod rows; // rows.rt: the results that the rows come to
-mod channels; // channels.rt: what is asked of the channels of a send or recv row
-mod rules; // rules.rt: what a form asks of each row in its set
+ghost use Rattle.sets.specs.Sets.{Sized};
+ghost use Rattle.asks.specs.Asks.{Names, Sends, sendTest};
+ghost use Rattle.flow.specs.Rules.{rowOr, syncTest};
 
 // Whether row r is in the set of name n and in that of a function's own name.
 fn keeps_fun(store: &[u8], rows: u8, r: u8, n: u8, own: u8) -> bool

@@ -1,10 +1,9 @@
-// A grid of bytes, one for each pair of rows, that shows a relation between rows: cleared, marked and closed.
+// A grid of bytes, one for each pair of rows, that shows a relation between rows: cleared, and closed.
 use store::Store;
 ghost use mathlib.Core.Bool.{false};
 ghost use Prim.Native.Nat.{_≤_};
 ghost use lib.ListN.{length};
-ghost use Rattle.format.specs.Limits.{rowLimit};
-ghost use Rattle.grids.specs.Grid.{gridSize, Fills, step, AddsPairs};
+ghost use Rattle.grids.specs.Grid.{gridSize, Fills};
 
 pub mod rounds; // rounds.rt: Warshall's rounds
 
@@ -23,19 +22,4 @@ pub fn clear(grid: &mut [u8])
         grid[i] = 0;
         i += 1;
     }
-}
-
-// Marks the pair of rows a and b, where both are there.
-pub fn mark(grid: &mut [u8], rows: u8, a: u8, b: u8)
-    requires { ⌜ (rows ≤ rowLimit) × (gridSize ≤ length (now grid)) ⌝ }
-    ensures { λ _. ⌜ AddsPairs rows (step a b) (now (grid .entry)) (now (grid .exit)) ⌝ }
-{
-    if rows <= a {
-        return;
-    }
-    if rows <= b {
-        return;
-    }
-    let at = a as usize * Store::ROWS + b as usize;
-    grid[at] = 1;
 }

@@ -2,7 +2,6 @@
 // results of what it calls.
 use forms::row_in;
 use grids::clear;
-use grids::mark;
 use program::Form;
 use program::Row;
 use store::Store;
@@ -163,6 +162,21 @@ fn body_results(store: &[u8], rows: u8) -> [u8; Store::ROWS]
         k += 1;
     }
     results
+}
+
+// Marks the step from row a to row b, where both are there.
+fn mark(grid: &mut [u8], rows: u8, a: u8, b: u8)
+    requires { ⌜ (rows ≤ rowLimit) × (gridSize ≤ length (now grid)) ⌝ }
+    ensures { λ _. ⌜ AddsPairs rows (step a b) (now (grid .entry)) (now (grid .exit)) ⌝ }
+{
+    if rows <= a {
+        return;
+    }
+    if rows <= b {
+        return;
+    }
+    let at = a as usize * Store::ROWS + b as usize;
+    grid[at] = 1;
 }
 
 // Marks the steps of a call of row t from row q: to t, and from t's result row to q's rest.

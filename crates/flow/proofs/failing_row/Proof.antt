@@ -8,7 +8,7 @@ use borrow.Author.Needs.{needs}
 use Rattle.program.specs.Flow.{keepsAt}
 use Rattle.store.specs.Rows.{storeProgram}
 use Rattle.tables.specs.Tables.{storeFlow, storeComm}
-use Rattle.flow.proofs.Tests.{first-fails, none-fails}
+use Rattle.flow.proofs.Failing.{first-fails, none-fails}
 use Rattle.flow.proofs.failing_row.Statement.{statement}
 use Rattle.flow.proofs.failing_row.Tie as tie
 
@@ -53,7 +53,9 @@ loop-again : tie.Need-loop-again Inv-loop μ-loop
 loop-again c = (omega arith, below-more _ _ (c .before .before .before .before .before .before .loop .inv .1) (sym (c .before .keeps-row .ensures) ∙ c .if1 .taken))
 
 returns : tie.Need-returns Inv-loop μ-loop
-returns c = first-fails _ _ _ (c .before .before .before .before .before .before .loop .inv .1) (c .before .before .before .before .before .loop-test .taken) (sym (c .before .keeps-row .ensures) ∙ c .if1 .left)
+returns c =
+    let turn = c .before .before .before .before .before in
+    first-fails _ _ _ (turn .before .loop .inv .1) (turn .loop-test .taken) (sym (c .before .keeps-row .ensures) ∙ c .if1 .left)
 
 returns-2 : tie.Need-returns-2 Inv-loop μ-loop
 returns-2 c = none-fails _ _ _ (c .before .loop .inv .1) (c .before .loop .inv .0) (c .loop-test .left)

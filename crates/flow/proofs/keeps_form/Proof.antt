@@ -2,8 +2,9 @@
 use mathlib.Core.Path.{_∙_}
 use borrow.Author.Needs.{needs}
 use Rattle.program.specs.Flow.{sendRule, recvRule, keepsForm}
-use Rattle.flow.specs.Rules.{Names, sendTest, recvTest, syncTest, asks}
-use Rattle.flow.proofs.Asked.{value-keeps}
+use Rattle.asks.specs.Asks.{Names, sendTest, asks}
+use Rattle.flow.specs.Rules.{recvTest, syncTest}
+use Rattle.flow.proofs.Keeping.{value-keeps}
 use Rattle.flow.proofs.keeps_form.Statement.{statement}
 use Rattle.flow.proofs.keeps_form.Tie as tie
 
@@ -99,7 +100,11 @@ returns-6 c = rw (c .before .before .form4 .given .1) (c .each-passes2 .ensures 
 
 returns-7 : tie.Need-returns-7
 unfolding keepsForm asks Names
-returns-7 c = rw (c .before .before .before .before .form5 .given .1) (c .each-passes3 .ensures ∙ rw (c .before .before .before .before .before .before .flow-set .ensures, c .before .before .byte-at .ensures ∙ c .before .before .before .before .before .before .before .before .before .before .before .pre .1 .0 _, c .before .byte-at2 .ensures ∙ c .before .before .before .before .before .before .before .before .before .before .before .pre .1 .0 _))
+returns-7 c =
+    let set = c .before .before .before .before .before .before in
+    let names = set .before .before .before .before .before .pre .1 .0 in
+    rw (c .before .before .before .before .form5 .given .1)
+    (c .each-passes3 .ensures ∙ rw (set .flow-set .ensures, c .before .before .byte-at .ensures ∙ names _, c .before .byte-at2 .ensures ∙ names _))
 
 returns-8 : tie.Need-returns-8
 unfolding keepsForm asks

@@ -1,6 +1,6 @@
 -- `keeps_fun` meets its contract: the row is not in the first set, or it is, and the second set decides.
 use borrow.Author.Needs.{needs}
-use Rattle.flow.proofs.Tests.{and-taken, and-left}
+use Rattle.sets.proofs.Tests.{and-taken, and-left}
 use Rattle.flow.proofs.keeps_fun.Statement.{statement}
 use Rattle.flow.proofs.keeps_fun.Tie as tie
 
@@ -17,7 +17,9 @@ has-row-requires-2 : tie.Need-has-row-requires-2
 has-row-requires-2 c κs = search needs
 
 returns : tie.Need-returns
-returns c = and-taken (rw (c .before .before .before .before .flow-set .ensures) at (c .before .before .before .has-row .ensures)) (c .before .before .if1 .taken) (rw (c .before .flow-set2 .ensures) at (c .has-row2 .ensures))
+returns c =
+    let first = c .before .before .before in
+    and-taken (rw (first .before .flow-set .ensures) at (first .has-row .ensures)) (c .before .before .if1 .taken) (rw (c .before .flow-set2 .ensures) at (c .has-row2 .ensures))
 
 returns-2 : tie.Need-returns-2
 returns-2 c = and-left _ (rw (c .before .before .flow-set .ensures) at (c .before .has-row .ensures)) (c .if1 .left)

@@ -1,6 +1,6 @@
 -- `keeps_sync` meets its contract: its send rows and its recv rows are tested apart, the recv rows by the set of the channels that pass.
 use borrow.Author.Needs.{needs}
-use Rattle.flow.proofs.Asked.{sync-recvs, sync-fails}
+use Rattle.flow.proofs.Keeping.{sync-recvs, sync-fails}
 use Rattle.flow.proofs.keeps_sync.Statement.{statement}
 use Rattle.flow.proofs.keeps_sync.Tie as tie
 
@@ -23,7 +23,10 @@ each-passes-requires : tie.Need-each-passes-requires
 each-passes-requires c κs = search needs
 
 returns : tie.Need-returns
-returns c = rw (← (c .before .before .before .before .before .before .flow-set .ensures)) (sync-recvs _ _ _ _ (c .before .before .before .before .before .has-unit .ensures) (c .before .before .before .before .sends-pass .ensures) (c .before .before .before .if1 .taken) (c .before .before .passing .ensures) (c .each-passes .ensures))
+returns c =
+    let sends = c .before .before .before .before in
+    rw (← (sends .before .before .flow-set .ensures))
+    (sync-recvs _ _ _ _ (sends .before .has-unit .ensures) (sends .sends-pass .ensures) (c .before .before .before .if1 .taken) (c .before .before .passing .ensures) (c .each-passes .ensures))
 
 returns-2 : tie.Need-returns-2
 returns-2 c = rw (← (c .before .before .before .flow-set .ensures)) (sync-fails _ _ _ _ (c .before .before .has-unit .ensures) (c .before .sends-pass .ensures) (c .if1 .left))

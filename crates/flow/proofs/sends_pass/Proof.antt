@@ -1,7 +1,7 @@
 -- `sends_pass` meets its contract: the set of the sends that pass holds a set exactly if each row in it passes.
 use mathlib.Core.Path.{_∙_}
 use borrow.Author.Needs.{needs}
-use Rattle.flow.proofs.Members.{marks-lies}
+use Rattle.sets.proofs.Members.{marks-lies}
 use Rattle.flow.proofs.sends_pass.Statement.{statement}
 use Rattle.flow.proofs.sends_pass.Tie as tie
 

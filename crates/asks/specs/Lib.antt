@@ -1,0 +1,2 @@
+-- What a form asks of each row in its set.
+pub mod Asks

@@ -1,0 +1,2 @@
+-- Sets as bytes.
+pub mod Sets
