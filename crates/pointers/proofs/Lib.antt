@@ -1,0 +1,4 @@
+-- Laws that the proofs of the functions share.
+pub mod Listing
+pub mod Marking
+pub mod Smallest
