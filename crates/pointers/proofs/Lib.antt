@@ -1,4 +1,3 @@
 -- Laws that the proofs of the functions share.
-pub mod Listing
 pub mod Marking
 pub mod Smallest

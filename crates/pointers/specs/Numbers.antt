@@ -4,8 +4,6 @@ use mathlib.Core.Bool.{Bool, true, false, not, _&&_, _||_}
 use mathlib.Core.List.{List, [], _∷_}
 use mathlib.Core.Path.{_≡_}
 use lib.Dec.{ltb}
-use Rattle.program.specs.declared.Form.{Form}
-use Rattle.program.specs.Program.{byKind}
 use Rattle.format.specs.Text.{Bytes, byteAt}
 use Rattle.pointers.specs.declared.few.Few.{Few}
 use Rattle.pointers.specs.declared.few.Few.the-variants.{Zero, One, Two, Three}
@@ -24,19 +22,6 @@ numbersOf Zero = []
 numbersOf (One a) = a ∷ []
 numbersOf (Two a b) = a ∷ b ∷ []
 numbersOf (Three a b c) = a ∷ b ∷ c ∷ []
-
--- the rows that a form points at, then the rest; and a name, then the names that a form binds
-abbrev pub rowsThen : Form → ℕ → Few
-rowsThen f rest =
-    let one = One rest in
-    byKind one one (λ c m. one) (λ c. one) (λ a b. one) (λ a. one) (λ a. one) (λ f x t. Two t rest) (λ t. Two t rest) (λ e. one) (λ s l t r u. Three t u rest)
-    (λ f a. one) f
-
-abbrev pub thenNames : ℕ → Form → Few
-thenNames name f =
-    let one = One name in
-    byKind one one (λ c m. one) (λ c. one) (λ a b. one) (λ a. one) (λ a. one) (λ f x t. Three name f x) (λ t. one) (λ e. one) (λ s l t r u. Three name l r)
-    (λ f a. one) f
 
 -- of n rows, row r may not point at row t: it is absent or not greater
 abbrev pub stray : ℕ → ℕ → ℕ → Bool

@@ -2,8 +2,9 @@
 use program::Form;
 use program::Row;
 ghost use mathlib.Core.Path.{_≡_};
-ghost use Rattle.program.specs.Program.{pointers, binders};
-ghost use Rattle.pointers.specs.Numbers.{numbersOf, rowsThen, thenNames};
+ghost use mathlib.Core.List.{[], _∷_, _++_};
+ghost use Rattle.program.specs.Program.{rowsOf, bindersOf, pointers, binders};
+ghost use Rattle.pointers.specs.Numbers.{numbersOf};
 
 // Up to three numbers.
 pub enum Few {
@@ -15,7 +16,7 @@ pub enum Few {
 
 // The rows that a form points at, then the rest.
 fn rows_of(form: Form, rest: u8) -> Few
-    ensures { λ x. ⌜ x ≡ rowsThen form rest ⌝ }
+    ensures { λ x. ⌜ numbersOf x ≡ rowsOf form ++ (rest ∷ []) ⌝ }
 {
     match form {
         Form::Unit => Few::One(rest),
@@ -50,7 +51,7 @@ pub(crate) fn pointers_of(row: Row) -> Few
 
 // A name, then the names that a form binds.
 fn names_of(name: u8, form: Form) -> Few
-    ensures { λ x. ⌜ x ≡ thenNames name form ⌝ }
+    ensures { λ x. ⌜ numbersOf x ≡ name ∷ bindersOf form ⌝ }
 {
     match form {
         Form::Unit => Few::One(name),
