@@ -18,7 +18,7 @@ use Rattle.program.specs.Each.{Each, nil, _&_}
 use Rattle.format.specs.declared.Reason.{Reason}
 use Rattle.format.specs.declared.Reason.the-variants.{NotALine, OutOfCount, WrongPointer, BoundTwice, OutOfScope, NotAllowed, StoreTooShort, StoreEmpty, StoreUnsound, FlowRuleFails}
 use Rattle.format.specs.declared.Refusal.{Refusal}
-use Rattle.format.specs.Limits.{rowLimit, byteLimit}
+use Rattle.format.specs.Limits.{rowLimit, byteLimit, lineLimit}
 use Rattle.format.specs.Text.{Bytes, expect}
 use Rattle.format.specs.Print.{header}
 use Rattle.format.specs.Document.{Entry, Document, Line}
@@ -56,7 +56,8 @@ unfolding withEntry
 entry-few n [] es = omega arith
 entry-few n (m ∷ ms) es = omega arith
 
-sets-few : (k n : ℕ) (bs : Bytes) → length (decodeSets k n bs) ≤ k
+-- each name or channel has one line at most
+pub sets-few : (k n : ℕ) (bs : Bytes) → length (decodeSets k n bs) ≤ k
 unfolding decodeSets
 sets-few zero n bs = omega arith
 sets-few (suc k) n bs =
@@ -149,7 +150,7 @@ scope-below d = either (ltb (scopeFault (d .rows)) (length (d .rows))) (λ e. rw
 
 -- the last line that a document can have: the first line, and at most one of each kind for each row number
 abbrev pub lastLine : ℕ
-lastLine = 1 + 4 * rowLimit
+lastLine = 1 + lineLimit
 
 abbrev Early : Refusal → Type 0
 Early r = r .line ≤ lastLine

@@ -24,7 +24,7 @@ use Rattle.format.specs.Structure.{structureFault}
 use Rattle.format.specs.WellFormed.{orderly, wellFormed}
 use Rattle.format.proofs.Rising.{every-append, every-left, every-right}
 use Rattle.format.proofs.Order.{orderly-iff}
-use Rattle.calls.specs.Layout.{rowSize, rowsSize, setsSize, storeSize, counting, padded, rowBytes, setsBytes, claimCode, rowOf, encode, decode, same}
+use Rattle.calls.specs.Layout.{rowSize, rowsSize, setsSize, storeSize, counting, padded, rowBytes, setsBytes, codeLimit, claimCode, rowOf, encode, decode, same}
 use Rattle.calls.specs.Calls.{unsound}
 use Rattle.calls.specs.Canonical.{countRows, rowsSound, restZero, flagsSound, claimsSound, canonical}
 use Rattle.calls.proofs.Codec.{same-iff}
@@ -80,9 +80,9 @@ flags-iff s =
 drop-thrice : (a b c : ℕ) (s : Bytes) → drop c (drop b (drop a s)) ≡ drop (a + b + c) s
 drop-thrice a b c s = ap (drop c) (drop-drop b a s) ∙ drop-drop c (a + b) s
 
-claims-part : (s : Bytes) → claimsSound s ≡ every (λ b. ltb b 6) (claimsPart s)
+claims-part : (s : Bytes) → claimsSound s ≡ every (λ b. ltb b codeLimit) (claimsPart s)
 unfolding claimsSound
-claims-part s = ap (every λ b. ltb b 6) (sym (drop-thrice rowsSize setsSize setsSize s))
+claims-part s = ap (every λ b. ltb b codeLimit) (sym (drop-thrice rowsSize setsSize setsSize s))
 
 same-tests : (a b : Bool) → (So a → So b) → (So b → So a) → a ≡ b
 same-tests true b f g = sym (f refl)

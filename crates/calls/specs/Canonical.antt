@@ -8,7 +8,7 @@ use Rattle.program.specs.Each.{every}
 use Rattle.format.specs.Limits.{rowLimit}
 use Rattle.format.specs.Text.{Bytes}
 use Rattle.format.specs.Read.{rowNumbers}
-use Rattle.calls.specs.Layout.{rowSize, rowsSize, setsSize, rowBytes, rowOf, same}
+use Rattle.calls.specs.Layout.{rowSize, rowsSize, setsSize, claimsStart, codeLimit, rowBytes, rowOf, same}
 
 -- how many rows stand before the first of kind 0, k at most
 unfoldable pub countRows : ℕ → Bytes → ℕ
@@ -33,7 +33,7 @@ unfoldable pub flagsSound : Bytes → Bool
 flagsSound s = every (λ b. ltb b 2) (take (setsSize + setsSize) (drop rowsSize s))
 
 unfoldable pub claimsSound : Bytes → Bool
-claimsSound s = every (λ b. ltb b 6) (drop (rowsSize + setsSize + setsSize) s)
+claimsSound s = every (λ b. ltb b codeLimit) (drop claimsStart s)
 
 unfoldable pub canonical : Bytes → Bool
 canonical s =

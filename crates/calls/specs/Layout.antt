@@ -36,19 +36,26 @@ rowsSize = rowLimit * rowSize
 abbrev pub setsSize : ℕ
 setsSize = rowLimit * memberLimit
 
+-- where the comms and the claims begin; the flows begin at `rowsSize`
+abbrev pub commsStart : ℕ
+commsStart = rowsSize + setsSize
+
+abbrev pub claimsStart : ℕ
+claimsStart = commsStart + setsSize
+
 -- the store's fixed size
 abbrev pub storeSize : ℕ
-storeSize = rowsSize + setsSize + setsSize + rowLimit
+storeSize = claimsStart + rowLimit
 
 -- where the set of name n, that of channel row c, and the claim on row c stand
 abbrev pub flowAt : ℕ → ℕ
 flowAt n = rowsSize + n * memberLimit
 
 abbrev pub commAt : ℕ → ℕ
-commAt c = rowsSize + setsSize + c * memberLimit
+commAt c = commsStart + c * memberLimit
 
 abbrev pub claimAt : ℕ → ℕ
-claimAt c = rowsSize + setsSize + setsSize + c
+claimAt c = claimsStart + c
 
 -- f i, f (i + 1) and so on, n of them
 unfoldable pub counting : {A : Type 0} → ℕ → ℕ → (ℕ → A) → List A
@@ -75,6 +82,10 @@ wordCode OneToOne = 2
 wordCode FanOut = 3
 wordCode FanIn = 4
 wordCode Many = 5
+
+-- every code is below this
+abbrev pub codeLimit : ℕ
+codeLimit = 6
 
 unfoldable pub claimCode : List Claim → ℕ → ℕ
 claimCode [] c = 0

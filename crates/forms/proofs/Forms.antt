@@ -16,7 +16,8 @@ use Rattle.program.specs.declared.Form.{Form}
 use Rattle.program.specs.declared.Form.the-variants.{Chan, Send, Recv, Pair, Left, Right, Fun, Spawn, Sync, First, Second, Case, Apply}
 use Rattle.program.specs.Test.{pick, _⇒_}
 use Rattle.program.specs.Maybe.{_>>=_, when, has}
-use Rattle.program.specs.Program.{Program, byKind, rowAt, bindOf, bindAt, formAt, sendOf, recvOf, pairOf, leftOf, rightOf, funOf, spawnOf, syncOf, chanOf, chanAt, chanRow, sendAt, recvAt, pairAt, leftAt, rightAt, funAt, syncAt, forkAt}
+use Rattle.program.specs.Program.{Program, rowAt, bindOf, bindAt, formAt, sendOf, recvOf, pairOf, leftOf, rightOf, funOf, spawnOf}
+use Rattle.program.specs.Program.{syncOf, chanOf, isChan, chanAt, chanRow, sendAt, recvAt, pairAt, leftAt, rightAt, funAt, syncAt, forkAt}
 use Rattle.format.specs.Text.{Bytes}
 use Rattle.store.specs.Rows.{storeProgram}
 use Rattle.store.proofs.Laws.{program-length}
@@ -59,9 +60,6 @@ every-form P h0 h1 h2 h3 h4 h5 h6 h7 h8 h9 h10 h11 h12 h13 (First a) = h10 a
 every-form P h0 h1 h2 h3 h4 h5 h6 h7 h8 h9 h10 h11 h12 h13 (Second a) = h11 a
 every-form P h0 h1 h2 h3 h4 h5 h6 h7 h8 h9 h10 h11 h12 h13 (Case s l t r w) = h12 s l t r w
 every-form P h0 h1 h2 h3 h4 h5 h6 h7 h8 h9 h10 h11 h12 h13 (Apply f a) = h13 f a
-
-abbrev pub isChan : Form → Bool
-isChan = byKind false true (λ c m. false) (λ c. false) (λ a b. false) (λ a. false) (λ a. false) (λ f x t. false) (λ t. false) (λ e. false) (λ s l t r w. false) (λ f a. false)
 
 chan-of : (n : ℕ) (t : Bool) (f : Form) → when (chanOf n f) (λ n. t) ≡ isChan f ⇒ t
 unfolding when
@@ -155,28 +153,55 @@ but k (x ∷ xs) = pick (eqb x k) (but k xs) (x ∷ but k xs)
 -- a form whose kind is one of ks, where a kind is not, is not of that kind
 module _ (ks : List ℕ) (f : Form) where
   pub no-send : T (not (hasKey ks 2)) → OneOf ks (tagOf form.the-type f) → sendOf f ≡ none
-  no-send h = every-form (λ f. OneOf ks (tagOf form.the-type f) → sendOf f ≡ none) (λ o. refl) (λ o. refl) (λ c m o. absurd (miss ks 2 h o)) (λ c o. refl) (λ a b o. refl) (λ a o. refl) (λ a o. refl) (λ f x t o. refl) (λ t o. refl) (λ e o. refl) (λ a o. refl) (λ a o. refl) (λ s l t r w o. refl) (λ f a o. refl) f
+  no-send h =
+      every-form (λ f. OneOf ks (tagOf form.the-type f) → sendOf f ≡ none)
+      (λ o. refl) (λ o. refl) (λ c m o. absurd (miss ks 2 h o)) (λ c o. refl) (λ a b o. refl) (λ a o. refl) (λ a o. refl) (λ f x t o. refl) (λ t o. refl)
+      (λ e o. refl) (λ a o. refl) (λ a o. refl) (λ s l t r w o. refl) (λ f a o. refl) f
 
   pub no-recv : T (not (hasKey ks 3)) → OneOf ks (tagOf form.the-type f) → recvOf f ≡ none
-  no-recv h = every-form (λ f. OneOf ks (tagOf form.the-type f) → recvOf f ≡ none) (λ o. refl) (λ o. refl) (λ c m o. refl) (λ c o. absurd (miss ks 3 h o)) (λ a b o. refl) (λ a o. refl) (λ a o. refl) (λ f x t o. refl) (λ t o. refl) (λ e o. refl) (λ a o. refl) (λ a o. refl) (λ s l t r w o. refl) (λ f a o. refl) f
+  no-recv h =
+      every-form (λ f. OneOf ks (tagOf form.the-type f) → recvOf f ≡ none)
+      (λ o. refl) (λ o. refl) (λ c m o. refl) (λ c o. absurd (miss ks 3 h o)) (λ a b o. refl) (λ a o. refl) (λ a o. refl) (λ f x t o. refl) (λ t o. refl)
+      (λ e o. refl) (λ a o. refl) (λ a o. refl) (λ s l t r w o. refl) (λ f a o. refl) f
 
   pub no-pair : T (not (hasKey ks 4)) → OneOf ks (tagOf form.the-type f) → pairOf f ≡ none
-  no-pair h = every-form (λ f. OneOf ks (tagOf form.the-type f) → pairOf f ≡ none) (λ o. refl) (λ o. refl) (λ c m o. refl) (λ c o. refl) (λ a b o. absurd (miss ks 4 h o)) (λ a o. refl) (λ a o. refl) (λ f x t o. refl) (λ t o. refl) (λ e o. refl) (λ a o. refl) (λ a o. refl) (λ s l t r w o. refl) (λ f a o. refl) f
+  no-pair h =
+      every-form (λ f. OneOf ks (tagOf form.the-type f) → pairOf f ≡ none)
+      (λ o. refl) (λ o. refl) (λ c m o. refl) (λ c o. refl) (λ a b o. absurd (miss ks 4 h o)) (λ a o. refl) (λ a o. refl) (λ f x t o. refl) (λ t o. refl)
+      (λ e o. refl) (λ a o. refl) (λ a o. refl) (λ s l t r w o. refl) (λ f a o. refl) f
 
   pub no-left : T (not (hasKey ks 5)) → OneOf ks (tagOf form.the-type f) → leftOf f ≡ none
-  no-left h = every-form (λ f. OneOf ks (tagOf form.the-type f) → leftOf f ≡ none) (λ o. refl) (λ o. refl) (λ c m o. refl) (λ c o. refl) (λ a b o. refl) (λ a o. absurd (miss ks 5 h o)) (λ a o. refl) (λ f x t o. refl) (λ t o. refl) (λ e o. refl) (λ a o. refl) (λ a o. refl) (λ s l t r w o. refl) (λ f a o. refl) f
+  no-left h =
+      every-form (λ f. OneOf ks (tagOf form.the-type f) → leftOf f ≡ none)
+      (λ o. refl) (λ o. refl) (λ c m o. refl) (λ c o. refl) (λ a b o. refl) (λ a o. absurd (miss ks 5 h o)) (λ a o. refl) (λ f x t o. refl) (λ t o. refl)
+      (λ e o. refl) (λ a o. refl) (λ a o. refl) (λ s l t r w o. refl) (λ f a o. refl) f
 
   pub no-right : T (not (hasKey ks 6)) → OneOf ks (tagOf form.the-type f) → rightOf f ≡ none
-  no-right h = every-form (λ f. OneOf ks (tagOf form.the-type f) → rightOf f ≡ none) (λ o. refl) (λ o. refl) (λ c m o. refl) (λ c o. refl) (λ a b o. refl) (λ a o. refl) (λ a o. absurd (miss ks 6 h o)) (λ f x t o. refl) (λ t o. refl) (λ e o. refl) (λ a o. refl) (λ a o. refl) (λ s l t r w o. refl) (λ f a o. refl) f
+  no-right h =
+      every-form (λ f. OneOf ks (tagOf form.the-type f) → rightOf f ≡ none)
+      (λ o. refl) (λ o. refl) (λ c m o. refl) (λ c o. refl) (λ a b o. refl) (λ a o. refl) (λ a o. absurd (miss ks 6 h o)) (λ f x t o. refl) (λ t o. refl)
+      (λ e o. refl) (λ a o. refl) (λ a o. refl) (λ s l t r w o. refl) (λ f a o. refl) f
 
   pub no-fun : T (not (hasKey ks 7)) → OneOf ks (tagOf form.the-type f) → funOf f ≡ none
-  no-fun h = every-form (λ f. OneOf ks (tagOf form.the-type f) → funOf f ≡ none) (λ o. refl) (λ o. refl) (λ c m o. refl) (λ c o. refl) (λ a b o. refl) (λ a o. refl) (λ a o. refl) (λ f x t o. absurd (miss ks 7 h o)) (λ t o. refl) (λ e o. refl) (λ a o. refl) (λ a o. refl) (λ s l t r w o. refl) (λ f a o. refl) f
+  no-fun h =
+      every-form (λ f. OneOf ks (tagOf form.the-type f) → funOf f ≡ none)
+      (λ o. refl) (λ o. refl) (λ c m o. refl) (λ c o. refl) (λ a b o. refl) (λ a o. refl) (λ a o. refl) (λ f x t o. absurd (miss ks 7 h o)) (λ t o. refl)
+      (λ e o. refl) (λ a o. refl) (λ a o. refl) (λ s l t r w o. refl) (λ f a o. refl) f
 
   pub no-spawn : T (not (hasKey ks 8)) → OneOf ks (tagOf form.the-type f) → spawnOf f ≡ none
-  no-spawn h = every-form (λ f. OneOf ks (tagOf form.the-type f) → spawnOf f ≡ none) (λ o. refl) (λ o. refl) (λ c m o. refl) (λ c o. refl) (λ a b o. refl) (λ a o. refl) (λ a o. refl) (λ f x t o. refl) (λ t o. absurd (miss ks 8 h o)) (λ e o. refl) (λ a o. refl) (λ a o. refl) (λ s l t r w o. refl) (λ f a o. refl) f
+  no-spawn h =
+      every-form (λ f. OneOf ks (tagOf form.the-type f) → spawnOf f ≡ none)
+      (λ o. refl) (λ o. refl) (λ c m o. refl) (λ c o. refl) (λ a b o. refl) (λ a o. refl) (λ a o. refl) (λ f x t o. refl) (λ t o. absurd (miss ks 8 h o))
+      (λ e o. refl) (λ a o. refl) (λ a o. refl) (λ s l t r w o. refl) (λ f a o. refl) f
 
   pub no-sync : T (not (hasKey ks 9)) → OneOf ks (tagOf form.the-type f) → syncOf f ≡ none
-  no-sync h = every-form (λ f. OneOf ks (tagOf form.the-type f) → syncOf f ≡ none) (λ o. refl) (λ o. refl) (λ c m o. refl) (λ c o. refl) (λ a b o. refl) (λ a o. refl) (λ a o. refl) (λ f x t o. refl) (λ t o. refl) (λ e o. absurd (miss ks 9 h o)) (λ a o. refl) (λ a o. refl) (λ s l t r w o. refl) (λ f a o. refl) f
+  no-sync h =
+      every-form (λ f. OneOf ks (tagOf form.the-type f) → syncOf f ≡ none)
+      (λ o. refl) (λ o. refl) (λ c m o. refl) (λ c o. refl) (λ a b o. refl) (λ a o. refl) (λ a o. refl) (λ f x t o. refl) (λ t o. refl)
+      (λ e o. absurd (miss ks 9 h o)) (λ a o. refl) (λ a o. refl) (λ s l t r w o. refl) (λ f a o. refl) f
 
   pub no-chan : T (not (hasKey ks 1)) → OneOf ks (tagOf form.the-type f) → isChan f ≡ false
-  no-chan h = every-form (λ f. OneOf ks (tagOf form.the-type f) → isChan f ≡ false) (λ o. refl) (λ o. absurd (miss ks 1 h o)) (λ c m o. refl) (λ c o. refl) (λ a b o. refl) (λ a o. refl) (λ a o. refl) (λ f x t o. refl) (λ t o. refl) (λ e o. refl) (λ a o. refl) (λ a o. refl) (λ s l t r w o. refl) (λ f a o. refl) f
+  no-chan h =
+      every-form (λ f. OneOf ks (tagOf form.the-type f) → isChan f ≡ false)
+      (λ o. refl) (λ o. absurd (miss ks 1 h o)) (λ c m o. refl) (λ c o. refl) (λ a b o. refl) (λ a o. refl) (λ a o. refl) (λ f x t o. refl) (λ t o. refl)
+      (λ e o. refl) (λ a o. refl) (λ a o. refl) (λ s l t r w o. refl) (λ f a o. refl) f

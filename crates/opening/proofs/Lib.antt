@@ -1,4 +1,2 @@
 -- Laws that the proofs of the functions share.
-pub mod Counting
-pub mod RowBytes
-pub mod Parts
+pub mod Opening

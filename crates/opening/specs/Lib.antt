@@ -1,2 +1,2 @@
--- What the tests of a store's bytes answer.
-pub mod Rows
+-- What the functions of this crate promise.
+pub mod Opening

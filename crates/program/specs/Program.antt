@@ -153,6 +153,11 @@ isValue (Second a) = false
 isValue (Case s l t r u) = false
 isValue (Apply f a) = false
 
+abbrev pub isChan : Form → Bool
+isChan =
+    byKind false true (λ c m. false) (λ c. false) (λ a b. false) (λ a. false) (λ a. false) (λ f x t. false) (λ t. false) (λ e. false) (λ s l t r u. false)
+    (λ f a. false)
+
 unfoldable pub valueRow : Program → ℕ → Bool
 valueRow p r = has (formAt p r) isValue
 

@@ -1,4 +1,6 @@
 -- Laws about the definitions of specs/, and what the proofs of several functions share.
 pub mod Laws
-pub mod Fuel
 pub mod Counts
+pub mod Document
+pub mod Tables
+pub mod Claims

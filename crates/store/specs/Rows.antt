@@ -1,9 +1,11 @@
 -- The rows of a store: a row by its number, and the program of the first n rows.
 use Prim.Native.Nat.{ℕ, _+_, _*_}
 use mathlib.Core.List.{[], _∷_}
+use mathlib.Core.Option.{Option, none, some}
 use lib.ListN.{getD, take, drop}
 use Rattle.program.specs.declared.Row.{Row}
 use Rattle.program.specs.Program.{Program}
+use Rattle.format.specs.Limits.{rowLimit}
 use Rattle.format.specs.Text.{Bytes}
 use Rattle.calls.specs.Layout.{rowSize, rowOf, counting}
 use Rattle.store.specs.declared.rows.Cells.{Cells}
@@ -14,6 +16,11 @@ storeRow s r = rowOf (take rowSize (drop (r * rowSize) s))
 -- the first n rows
 unfoldable pub storeProgram : ℕ → Bytes → Program
 storeProgram n s = counting n 0 (storeRow s)
+
+-- a row, or the limit, which is no row's number
+unfoldable pub rowOr : Option ℕ → ℕ
+rowOr none = rowLimit
+rowOr (some r) = r
 
 -- the bytes of a row, one by one: past the end of the store they are 0
 unfoldable pub cellsAt : Bytes → ℕ → Cells

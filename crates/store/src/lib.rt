@@ -7,15 +7,15 @@ ghost use Rattle.calls.specs.Layout.{storeSize};
 
 pub mod kinds; // kinds.rt: the kinds of the forms
 pub mod rows; // rows.rt: a row of the store, read and written
-pub mod scope; // scope.rt: uses out of scope, down the tree of rows
 
 pub use kinds::arity;
 pub use kinds::form_place;
 pub use rows::form_of;
 pub use rows::put_row;
 pub use rows::row_at;
-pub use scope::NO_ROW;
-pub use scope::scope_fault;
+
+// No row: an answer where there is none.
+pub const NO_ROW: u8 = Store::ROWS as u8;
 
 pub struct Store {
     pub bytes: [u8; Store::SIZE],

@@ -17,16 +17,17 @@ use Rattle.format.specs.Document.{Document}
 use Rattle.format.specs.Scope.{scopeFault}
 use Rattle.format.specs.Structure.{rowLine, pointerFault, binderFault, scopeLine, firstFailing, flowLine, commLine, claimLine, notAllowed, structureFault}
 use Rattle.format.proofs.First.{First, fails, first-is}
-use Rattle.store.specs.Rows.{storeProgram}
+use Rattle.store.specs.Rows.{storeProgram, rowOr}
 use Rattle.store.proofs.Laws.{program-length}
-use Rattle.structure.specs.Numbers.{rowOr}
-use Rattle.structure.specs.Lines.{lineOr, storeDocument}
-use Rattle.structure.proofs.Checking.{rows-are}
+use Rattle.store.specs.Document.{storeDocument}
+use Rattle.allowed.specs.Lines.{lineOr}
+use Rattle.store.proofs.Document.{rows-are}
 
 -- ---- a row, or none
 
 module _ (n : ℕ) (f : ℕ → Bool) (m : ℕ) (limit : n ≤ rowLimit) (e : m ≡ rowOr (least n f)) where
   row-found : m < n → least n f ≡ some m
+  unfolding rowOr
   row-found l = go (least n f) (least-is n f) e
     where
       go : (o : Option ℕ) → Least n f o → m ≡ rowOr o → o ≡ some m
@@ -34,6 +35,7 @@ module _ (n : ℕ) (f : ℕ → Bool) (m : ℕ) (limit : n ≤ rowLimit) (e : m 
       go (some i) (smallest b t k) q = ap some (sym q)
 
   row-missing : n ≤ m → least n f ≡ none
+  unfolding rowOr
   row-missing l = go (least n f) (least-is n f) e
     where
       go : (o : Option ℕ) → Least n f o → m ≡ rowOr o → o ≡ none

@@ -1,5 +1,2 @@
--- What the functions of this crate answer.
-pub mod Numbers
-pub mod Seen
-pub mod Lines
+-- What the function of this crate answers.
 pub mod Answer

@@ -8,17 +8,8 @@ ghost use lib.ListN.{length};
 ghost use Rattle.format.specs.Limits.{rowLimit};
 ghost use Rattle.calls.specs.Layout.{storeSize};
 ghost use Rattle.format.specs.Structure.{rowLine, structureFault};
-ghost use Rattle.structure.specs.Lines.{storeDocument};
+ghost use Rattle.store.specs.Document.{storeDocument};
 ghost use Rattle.structure.specs.Answer.{structureRead};
-
-mod few; // few.rt: the rows that a row points at, and the names that it binds
-mod seen; // seen.rt: the numbers that were seen so far
-mod faults; // faults.rt: the smallest row with a wrong pointer, or with a name bound earlier
-mod allowed; // allowed.rt: the first line of sets and claims that names what it may not
-
-pub use allowed::not_allowed;
-pub use faults::binder_fault;
-pub use faults::pointer_fault;
 
 // Refusals 6 to 9: the first of them, or none.
 pub enum Structure {
@@ -42,19 +33,19 @@ pub fn structure_fault(store: &[u8], rows: u8) -> Structure
     requires { ⌜ storeSize ≤ length (now store) ⌝ }
     ensures { λ x. ⌜ structureRead x ≡ structureFault (storeDocument rows (now (store .entry))) ⌝ }
 {
-    let pointer = pointer_fault(store, rows);
+    let pointer = pointers::pointer_fault(store, rows);
     if pointer < rows {
         return at_row(Reason::WrongPointer, pointer);
     }
-    let binder = binder_fault(store, rows);
+    let binder = pointers::binder_fault(store, rows);
     if binder < rows {
         return at_row(Reason::BoundTwice, binder);
     }
-    let scope = store::scope_fault(store, rows);
-    if scope < rows {
-        return at_row(Reason::OutOfScope, scope);
+    let unscoped = scope::scope_fault(store, rows);
+    if unscoped < rows {
+        return at_row(Reason::OutOfScope, unscoped);
     }
-    let line = not_allowed(store, rows);
+    let line = allowed::not_allowed(store, rows);
     if line != 0 {
         return Structure::Refused(Refusal {
             reason: Reason::NotAllowed,

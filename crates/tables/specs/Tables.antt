@@ -1,26 +1,2 @@
--- The sets of a store as tables: a member's byte is not 0.
-use Prim.Native.Nat.{ℕ, _+_}
-use mathlib.Core.Bool.{Bool}
-use lib.Dec.{ltb, leb}
-use Rattle.program.specs.Test.{pick}
-use Rattle.program.specs.Flow.{Abstract, Table}
-use Rattle.format.specs.Limits.{rowLimit}
-use Rattle.format.specs.Text.{Bytes, byteAt}
-use Rattle.format.specs.Document.{member}
-use Rattle.calls.specs.Layout.{memberLimit, flowAt, commAt}
-
--- the byte of member m in a set that begins at a position: 0 where there is no such name, row or member
-unfoldable pub flagAt : Bytes → (ℕ → ℕ) → ℕ → ℕ → ℕ
-flagAt s position n m = pick (leb rowLimit n) 0 (pick (leb memberLimit m) 0 (byteAt s (position n + m)))
-
-unfoldable pub flowFlag : Bytes → ℕ → ℕ → ℕ
-flowFlag s n m = flagAt s flowAt n m
-
-unfoldable pub commFlag : Bytes → ℕ → ℕ → ℕ
-commFlag s c m = flagAt s commAt c m
-
-unfoldable pub storeFlow : Bytes → Table
-storeFlow s n a = ltb 0 (flowFlag s n (member a))
-
-unfoldable pub storeComm : Bytes → Table
-storeComm s c a = ltb 0 (commFlag s c (member a))
+-- The sets of a store as tables, which stand beside its document.
+unfoldable pub use Rattle.store.specs.Document.{flagAt, flowFlag, commFlag, storeFlow, storeComm}

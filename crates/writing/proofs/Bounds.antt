@@ -19,13 +19,13 @@ use Rattle.format.specs.Limits.{rowLimit}
 use Rattle.format.specs.Text.{Bytes, ascii, place, digits, argument, arguments}
 use Rattle.format.specs.Document.{Claim, Document, row, claim}
 use Rattle.format.specs.Print.{formWord, formNumbers, formText, rowText, memberText, membersText, setText, wordText, lineText, rowLines, header, documentText}
-use Rattle.calls.specs.Layout.{memberLimit, rowsSize, setsSize, storeSize, membersFrom, withEntry, decodeSets, wordOf, decodeClaims}
+use Rattle.calls.specs.Layout.{memberLimit, rowsSize, storeSize, membersFrom, withEntry, decodeSets, wordOf, decodeClaims, commsStart, claimsStart}
 use Rattle.calls.proofs.Codec.Sparse.{either}
 use Rattle.store.proofs.Laws.{program-length}
 use Rattle.text.specs.Write.{Room}
+use Rattle.store.specs.Document.{storeDocument}
 use Rattle.write_sets.specs.Texts.{entryText}
 use Rattle.write_sets.proofs.Parts.{with-entry}
-use Rattle.writing.specs.Texts.{storedDocument}
 use Rattle.writing.proofs.Parts.{claimsText, document-parts, partsText, stored-parts}
 
 -- ---- numbers
@@ -156,25 +156,23 @@ module _ (d : Document) (k c : ℕ) where
   unfolding header ascii
   document-length f g h = rw (document-parts d) (simp length-append (omega (arith, rows-length 0 (d .rows))))
 
-shorter : (a : ℕ) (s : Bytes) → length (drop a s) ≤ length s
-shorter a s = omega (arith, length-drop a s)
+shorter : (a : ℕ) (s : Bytes) → length (take rowLimit (drop a s)) ≤ length s
+shorter a s = simp (length-take, length-drop) (omega arith)
 
 module _ (n : ℕ) (s : Bytes) where
-  pub stored-bound : length (documentText (storedDocument n s)) ≤ 100 * n + 2000 * rowLimit + 40 * length s + 14
-  unfolding storedDocument ascii
+  pub stored-bound : length (documentText (storeDocument n s)) ≤ 100 * n + 2000 * rowLimit + 40 * length s + 14
+  unfolding storeDocument ascii
   stored-bound =
-      let sets = drop rowsSize s in
-      let more = drop setsSize sets in
-      let codes = drop setsSize more in
+      let codes = take rowLimit (drop claimsStart s) in
       let all =
-      document-length (storedDocument n s) rowLimit (length codes) (sets-length (ascii "[flow") (omega arith) rowLimit 0 sets)
-      (sets-length (ascii "[comm") (omega arith) rowLimit 0 more)
+      document-length (storeDocument n s) rowLimit (length codes) (sets-length (ascii "[flow") (omega arith) rowLimit 0 (drop rowsSize s))
+      (sets-length (ascii "[comm") (omega arith) rowLimit 0 (drop commsStart s))
       (claims-length 0 codes) in
-      omega (arith, all, program-length n s, shorter rowsSize s, shorter setsSize sets, shorter setsSize more)
+      omega (arith, all, program-length n s, shorter claimsStart s)
 
-  stored-fits : n < 256 → length s ≡ storeSize → Room 0 (documentText (storedDocument n s))
+  stored-fits : n < 256 → length s ≡ storeSize → Room 0 (documentText (storeDocument n s))
   stored-fits h e = record { room = omega (arith, stored-bound) }
 
   -- a store has so many bytes, and at most 255 rows are asked for
   pub stored-room : n < 256 → length s ≡ storeSize → Room 0 (partsText n s)
-  stored-room h e = rw (stored-parts n s) at (stored-fits h e)
+  stored-room h e = rw (stored-parts n s e) at (stored-fits h e)

@@ -1,11 +1,11 @@
 -- The texts in parts: the lines of claims, and a document's text.
 use Prim.Native.Nat.{ℕ, suc, _+_, _-_, _<_, _≤_}
 use mathlib.Core.List.{List, [], _∷_, _++_, map, append-assoc, append-nil}
-use mathlib.Core.Path.{_≡_, refl, sym}
+use mathlib.Core.Path.{_≡_, refl, sym, _∙_}
 use native.Mathlib.Numerals.{add-one}
 use native.Mathlib.Omega.{arith}
 use lib.ListN.{length, getD, drop, take, length-drop, drop-of-length-le}
-use lib.Seq.{drop-cons, drop-drop, take-all}
+use lib.Seq.{drop-cons, take-all}
 use lib.Dec.{eqb}
 use borrow.Author.Tests.{ne-eqb}
 use Rattle.program.specs.Each.{collect}
@@ -13,11 +13,11 @@ use Rattle.format.specs.Limits.{rowLimit}
 use Rattle.format.specs.Text.{Bytes, ascii}
 use Rattle.format.specs.Document.{Entry, Claim, Document, Line, flow, comm, claim}
 use Rattle.format.specs.Print.{lineText, rowLines, linesOf, header, documentText}
-use Rattle.calls.specs.Layout.{rowsSize, setsSize, decodeSets, wordOf, decodeRows, decodeClaims, decode}
+use Rattle.calls.specs.Layout.{rowsSize, decodeSets, wordOf, decodeClaims, commsStart, claimsStart, storeSize}
 use Rattle.calls.proofs.Codec.Sparse.{either}
 use Rattle.store.specs.Rows.{storeProgram}
+use Rattle.store.specs.Document.{storeDocument}
 use Rattle.write_sets.specs.Texts.{entryText}
-use Rattle.writing.specs.Texts.{storedDocument}
 
 -- ---- lists, one after the other
 
@@ -99,22 +99,10 @@ partsText n s =
     header
     ++ (collect lineText (rowLines 0 (storeProgram n s))
     ++ (collect (entryText (ascii "[flow")) (decodeSets rowLimit 0 (behind rowsSize s))
-    ++ (collect (entryText (ascii "[comm")) (decodeSets rowLimit 0 (behind (rowsSize + setsSize) s))
-    ++ claimsText (decodeClaims 0 (behind (rowsSize + setsSize + setsSize) s)))))
+    ++ (collect (entryText (ascii "[comm")) (decodeSets rowLimit 0 (behind commsStart s)) ++ claimsText (decodeClaims 0 (behind claimsStart s)))))
 
-pub stored-parts : (n : ℕ) (s : Bytes) → documentText (storedDocument n s) ≡ partsText n s
-unfolding storedDocument
-stored-parts n s =
-    rw (
-      behind-is rowsSize s,
-      behind-is (rowsSize + setsSize) s,
-      behind-is (rowsSize + setsSize + setsSize) s,
-      ← (drop-drop setsSize (rowsSize + setsSize) s),
-      ← (drop-drop setsSize rowsSize s),
-    )
-    (document-parts (storedDocument n s))
-
--- the document that the store decodes to, where its rows are the first n
-pub stored-decode : (n : ℕ) (s : Bytes) → decodeRows rowLimit s ≡ storeProgram n s → storedDocument n s ≡ decode s
-unfolding storedDocument decode
-stored-decode n s e = rw e
+pub stored-parts : (n : ℕ) (s : Bytes) → length s ≡ storeSize → documentText (storeDocument n s) ≡ partsText n s
+unfolding storeDocument
+stored-parts n s size =
+    let codes : take rowLimit (drop claimsStart s) ≡ drop claimsStart s = take-all rowLimit (drop claimsStart s) (simp length-drop (omega arith)) in
+    document-parts (storeDocument n s) ∙ rw (behind-is rowsSize s, behind-is commsStart s, behind-is claimsStart s, codes)

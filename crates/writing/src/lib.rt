@@ -9,14 +9,14 @@ ghost use lib.ListN.{length, take};
 ghost use Rattle.format.specs.Print.{documentText};
 ghost use Rattle.calls.specs.Layout.{storeSize};
 ghost use Rattle.text.specs.Write.{Room, Wrote};
-ghost use Rattle.writing.specs.Texts.{storedDocument};
+ghost use Rattle.store.specs.Document.{storeDocument};
 
 mod claims; // claims.rt: claim lines
 
 // Writes the document of the bytes of a store with so many rows.
 fn put_store(out: &mut [u8], store: &[u8], rows: u8) -> usize
     requires { ⌜ length (now store) ≡ storeSize ⌝ }
-    ensures { λ r. ⌜ Wrote (now (out .entry)) 0 (documentText (storedDocument rows (now (store .entry)))) r (now (out .exit)) ⌝ }
+    ensures { λ r. ⌜ Wrote (now (out .entry)) 0 (documentText (storeDocument rows (now (store .entry)))) r (now (out .exit)) ⌝ }
 {
     let a = text::put_word(out, 0, b"[dispenser 1]\n");
     let b = put_rows(out, a, store, rows);
@@ -28,7 +28,7 @@ fn put_store(out: &mut [u8], store: &[u8], rows: u8) -> usize
 // Writes the document of the store at the head of a slice, with so many rows, and returns the length of its text.
 pub fn put_document(out: &mut [u8], store: &[u8], rows: u8) -> usize
     requires { ⌜ storeSize ≤ length (now store) ⌝ }
-    ensures { λ r. ⌜ Wrote (now (out .entry)) 0 (documentText (storedDocument rows (take storeSize (now (store .entry))))) r (now (out .exit)) ⌝ }
+    ensures { λ r. ⌜ Wrote (now (out .entry)) 0 (documentText (storeDocument rows (take storeSize (now (store .entry))))) r (now (out .exit)) ⌝ }
 {
     put_store(out, &store[..Store::SIZE], rows)
 }
@@ -36,7 +36,7 @@ pub fn put_document(out: &mut [u8], store: &[u8], rows: u8) -> usize
 // The length of that text: what writing it into no bytes at all passes.
 pub fn document_length(store: &[u8], rows: u8) -> usize
     requires { ⌜ storeSize ≤ length (now store) ⌝ }
-    ensures { λ n. ⌜ n ≡ length (documentText (storedDocument rows (take storeSize (now (store .entry))))) ⌝ }
+    ensures { λ n. ⌜ n ≡ length (documentText (storeDocument rows (take storeSize (now (store .entry))))) ⌝ }
 {
     let mut none = [0u8; 0];
     put_document(&mut none, store, rows)

@@ -17,7 +17,7 @@ use Rattle.format.specs.Limits.{rowLimit}
 use Rattle.format.specs.Text.{Bytes}
 use Rattle.format.specs.Document.{Claim, claim}
 use Rattle.format.specs.Read.{rising, lineNumbers, aboveLimit}
-use Rattle.calls.specs.Layout.{counting, wordCode, wordOf, claimCode, decodeClaims}
+use Rattle.calls.specs.Layout.{counting, wordCode, wordOf, codeLimit, claimCode, decodeClaims}
 use Rattle.calls.proofs.Codec.Sparse.{either, counting-each, Within}
 use Rattle.calls.proofs.Canonical.Lists.{every-intro, counting-is, within-skip, within-cons, within-below, low-line, below-iff}
 
@@ -48,7 +48,7 @@ word-again (suc (suc (suc (suc (suc zero))))) e l = refl
 word-again (suc (suc (suc (suc (suc (suc k)))))) e l = absurd (omega arith)
 
 -- a byte below 6 is the code of its claim
-code-again : (c : ℕ) (ks : Bytes) → Each (λ b. b < 6) ks → (j : ℕ) → claimCode (decodeClaims c ks) (c + j) ≡ getD ks j 0
+code-again : (c : ℕ) (ks : Bytes) → Each (λ b. b < codeLimit) ks → (j : ℕ) → claimCode (decodeClaims c ks) (c + j) ≡ getD ks j 0
 unfolding decodeClaims claimCode
 code-again c [] h j = refl
 code-again c (k ∷ ks) (l & h) zero =
@@ -61,7 +61,7 @@ code-again c (k ∷ ks) (l & h) (suc j) =
     (λ e. rw (e, decodeClaims, add-suc, ← suc-add) (code-again (suc c) ks h j))
     (λ e. rw (e, decodeClaims, ne-eqb (c + suc j) c (omega arith), claimCode, add-suc, ← suc-add) (code-again (suc c) ks h j))
 
-claims-again : (n : ℕ) (ks : Bytes) → length ks ≡ n → Each (λ b. b < 6) ks → counting n 0 (claimCode (decodeClaims 0 ks)) ≡ ks
+claims-again : (n : ℕ) (ks : Bytes) → length ks ≡ n → Each (λ b. b < codeLimit) ks → counting n 0 (claimCode (decodeClaims 0 ks)) ≡ ks
 claims-again n ks e h = counting-is n 0 _ 0 ks e (code-again 0 ks h)
 
 word-range : (w : Word) → wordCode w < 6
@@ -79,7 +79,7 @@ code-range (k ∷ ks) c =
     either (eqb c (k .channel)) (λ e. rw (e, claimCode) (word-range (k .word))) (λ e. rw (e, claimCode) (code-range ks c))
 
 -- the test of the claims' part
-pub claims-iff : (n : ℕ) (ks : Bytes) → length ks ≡ n → So (every (λ b. ltb b 6) ks) ↔ (counting n 0 (claimCode (decodeClaims 0 ks)) ≡ ks)
+pub claims-iff : (n : ℕ) (ks : Bytes) → length ks ≡ n → So (every (λ b. ltb b codeLimit) ks) ↔ (counting n 0 (claimCode (decodeClaims 0 ks)) ≡ ks)
 claims-iff n ks e =
     let cs = decodeClaims 0 ks in
     (λ t. claims-again n ks e (below-iff 6 ks .0 t), λ q. below-iff 6 ks .1 (rw q at (counting-each {P = λ b. b < 6} n 0 (claimCode cs) (code-range cs))))

@@ -19,7 +19,7 @@ use Rattle.format.specs.Limits.{rowLimit}
 use Rattle.format.specs.Text.{Bytes}
 use Rattle.format.specs.Document.{Entry, Claim, Document, Line, row, flow, comm, claim, membersAt}
 use Rattle.format.specs.Read.{add, noLines}
-use Rattle.calls.specs.Layout.{rowSize, rowsSize, setsSize, memberLimit, storeSize, flowAt, commAt, claimAt, counting, padded, rowBytes, flagsOf, setsBytes, wordCode, claimCode, encode}
+use Rattle.calls.specs.Layout.{rowSize, rowsSize, setsSize, commsStart, claimsStart, memberLimit, storeSize, flowAt, commAt, claimAt, counting, padded, rowBytes, flagsOf, setsBytes, wordCode, claimCode, encode}
 use Rattle.calls.proofs.Codec.Sparse.{counting-length}
 use Rattle.calls.proofs.Codec.Rows.{rows-length, row-size, rows-part-length}
 use Rattle.calls.proofs.Codec.Sets.{flags-length, sets-bytes-length}
@@ -265,7 +265,7 @@ module _ (d : Document) (fit : length (d .rows) ≤ rowLimit) where
       let rows = padded rowsSize (collect rowBytes (d .rows)) in
       let flows = setsBytes (d .flows) in
       let post = counting rowLimit 0 (claimCode (d .claims)) in
-      let n : length (rows ++ flows) ≡ rowsSize + setsSize = length-append rows flows ∙ rw (rows-part d fit, sets-bytes-length (d .flows)) in (
+      let n : length (rows ++ flows) ≡ commsStart = length-append rows flows ∙ rw (rows-part d fit, sets-bytes-length (d .flows)) in (
         rw (n, append-assoc rows flows (setsBytes (d .comms) ++ post), append-assoc rows flows (setsBytes (d .comms ++ (e ∷ [])) ++ post)) at (sym (filled-patch (rows ++ flows) post f)),
         rw (n, flags-length (e .members), append-assoc rows flows (setsBytes (d .comms) ++ post)) at (filled-zero (rows ++ flows) post f),
       )
@@ -278,7 +278,7 @@ module _ (d : Document) (fit : length (d .rows) ≤ rowLimit) where
       let rows = padded rowsSize (collect rowBytes (d .rows)) in
       let flows = setsBytes (d .flows) in
       let comms = setsBytes (d .comms) in
-      let n : length (rows ++ (flows ++ comms)) ≡ rowsSize + setsSize + setsSize = length-append rows (flows ++ comms)
+      let n : length (rows ++ (flows ++ comms)) ≡ claimsStart = length-append rows (flows ++ comms)
       ∙ rw (length-append flows comms, rows-part d fit, sets-bytes-length (d .flows), sets-bytes-length (d .comms)) in
       let old : rows ++ (flows ++ comms) ++ (counting rowLimit 0 (claimCode (d .claims)) ++ []) ≡ rows ++ (flows ++ (comms ++ counting rowLimit 0 (claimCode (d .claims)))) =
       rw (

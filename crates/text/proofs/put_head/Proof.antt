@@ -16,14 +16,22 @@ put-argument-requires c κs = room-first _ _ (room-then _ (c .before .before .be
 
 put-byte-requires : tie.Need-put-byte-requires
 unfolding headText ascii
-put-byte-requires c κs = room-then _ (c .before .before .before .put-argument .ensures) (room-then _ (c .before .before .before .before .before .before .before .put-word .ensures) (c .before .before .before .before .before .before .before .before .before .before .before .pre))
+put-byte-requires c κs =
+    let at-put-argument = c .before .before .before in
+    let at-put-word = at-put-argument .before .before .before .before in
+    let start = at-put-word .before .before .before .before in
+    room-then _ (at-put-argument .put-argument .ensures) (room-then _ (at-put-word .put-word .ensures) (start .pre))
 
 same-length : tie.Need-same-length
 same-length c = search needs
 
 returns : tie.Need-returns
 unfolding headText ascii
-returns c = then (c .before .before .before .before .before .before .before .before .before .before .put-word .ensures) (then (c .before .before .before .before .before .before .put-argument .ensures) (c .before .before .put-byte .ensures))
+returns c =
+    let at-put-byte = c .before .before in
+    let at-put-argument = at-put-byte .before .before .before .before in
+    let at-put-word = at-put-argument .before .before .before .before in
+    then (at-put-word .put-word .ensures) (then (at-put-argument .put-argument .ensures) (at-put-byte .put-byte .ensures))
 
 pub put-head-spec : {M : Type 1} → statement M
 put-head-spec =

@@ -4,7 +4,7 @@ use native.Mathlib.Omega.{arith}
 use borrow.Author.Needs.{needs}
 use Rattle.format.specs.Print.{header}
 use Rattle.format.specs.Text.{ascii}
-use Rattle.calls.specs.Layout.{rowsSize, setsSize}
+use Rattle.calls.specs.Layout.{rowsSize, commsStart, claimsStart}
 use Rattle.text.specs.Write.{Room}
 use Rattle.text.proofs.Writing.{then, room-first, room-then}
 use Rattle.writing.proofs.Bounds.{stored-room}
@@ -70,7 +70,7 @@ put-sets-requires-2 c κs =
     let at-put-rows = at-put-sets .before .before .before .before .before .before in
     let at-put-word = at-put-rows .before .before .before .before in
     let start = at-put-word .before .before .before .before .before in (
-      omega (arith, behind-length (rowsSize + setsSize) (start .args .store .now), start .pre),
+      omega (arith, behind-length commsStart (start .args .store .now), start .pre),
       room-first _ _
           (room-then _ (at-put-sets .put-sets .ensures) (room-then _ (at-put-rows .put-rows .ensures) (room-then _ (at-put-word .put-word .ensures) (room start)))),
     )
@@ -92,7 +92,7 @@ put-claims-requires c κs =
     let at-put-rows = at-put-sets .before .before .before .before .before .before in
     let at-put-word = at-put-rows .before .before .before .before in
     let start = at-put-word .before .before .before .before .before in (
-      omega (arith, behind-length (rowsSize + setsSize + setsSize) (start .args .store .now), start .pre),
+      omega (arith, behind-length claimsStart (start .args .store .now), start .pre),
       room-then _ (at-put-sets2 .put-sets2 .ensures)
           (room-then _ (at-put-sets .put-sets .ensures) (room-then _ (at-put-rows .put-rows .ensures) (room-then _ (at-put-word .put-word .ensures) (room start)))),
     )
@@ -109,7 +109,7 @@ returns c =
     let at-put-rows = at-put-sets .before .before .before .before .before .before in
     let at-put-word = at-put-rows .before .before .before .before in
     let start = at-put-word .before .before .before .before .before in
-    rw (stored-parts (start .args .rows) (start .args .store .now))
+    rw (stored-parts (start .args .rows) (start .args .store .now) (start .pre))
     (then (at-put-word .put-word .ensures) (then (at-put-rows .put-rows .ensures)
     (then (at-put-sets .put-sets .ensures) (then (at-put-sets2 .put-sets2 .ensures) (at-put-claims .put-claims .ensures)))))
 

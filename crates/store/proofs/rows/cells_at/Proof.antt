@@ -54,7 +54,25 @@ byte-at-requires-8 c κs = search needs
 
 returns : tie.Need-returns
 unfolding cellsAt
-returns c = simp (c .before .before .before .before .before .before .before .byte-at .ensures, c .before .before .before .before .before .before .byte-at2 .ensures, c .before .before .before .before .before .byte-at3 .ensures, c .before .before .before .before .byte-at4 .ensures, c .before .before .before .byte-at5 .ensures, c .before .before .byte-at6 .ensures, c .before .byte-at7 .ensures, c .byte-at8 .ensures)
+returns c =
+    let at-byte-at7 = c .before in
+    let at-byte-at6 = at-byte-at7 .before in
+    let at-byte-at5 = at-byte-at6 .before in
+    let at-byte-at4 = at-byte-at5 .before in
+    let at-byte-at3 = at-byte-at4 .before in
+    let at-byte-at2 = at-byte-at3 .before in
+    let at-byte-at = at-byte-at2 .before in
+    simp (
+      at-byte-at .byte-at .ensures,
+      at-byte-at2 .byte-at2 .ensures,
+      at-byte-at3 .byte-at3 .ensures,
+      at-byte-at4 .byte-at4 .ensures,
+      at-byte-at5 .byte-at5 .ensures,
+      at-byte-at6 .byte-at6
+          .ensures,
+      at-byte-at7 .byte-at7 .ensures,
+      c .byte-at8 .ensures,
+    )
 
 pub cells-at-spec : {M : Type 1} → statement M
 cells-at-spec =

@@ -1,0 +1,168 @@
+-- `not_allowed` meets its contract: the flags tell what may be named, and the first part with a failing line has the first such line.
+-- Where a part passes, the next begins at the line after it.
+use native.Mathlib.Omega.{arith}
+use mathlib.Core.Path.{sym, _∙_}
+use borrow.Author.Needs.{needs}
+use Rattle.allowed.proofs.Checking.{comm-line, claim-line, flow-fails, comm-fails, claim-fails, none-fails}
+use Rattle.allowed.proofs.not_allowed.Statement.{statement}
+use Rattle.allowed.proofs.not_allowed.Tie as tie
+
+allowed-members-requires : tie.Need-allowed-members-requires
+allowed-members-requires c κs = search needs
+
+bound-requires : tie.Need-bound-requires
+bound-requires c κs = search needs
+
+chan-rows-requires : tie.Need-chan-rows-requires
+chan-rows-requires c κs = search needs
+
+add-flows : tie.Need-add-flows
+add-flows c = search needs
+
+slice-aggregate-check-sets : tie.Need-slice-aggregate-check-sets
+slice-aggregate-check-sets c = search needs
+
+slice-aggregate-check-sets-2 : tie.Need-slice-aggregate-check-sets-2
+slice-aggregate-check-sets-2 c = search needs
+
+check-sets-requires : tie.Need-check-sets-requires
+check-sets-requires c κs = search needs
+
+enum-known-line : tie.Need-enum-known-line
+enum-known-line c = search needs
+
+enum-known-comms : tie.Need-enum-known-comms
+enum-known-comms c = search needs
+
+slice-aggregate-check-sets-3 : tie.Need-slice-aggregate-check-sets-3
+slice-aggregate-check-sets-3 c = search needs
+
+slice-aggregate-check-sets-4 : tie.Need-slice-aggregate-check-sets-4
+slice-aggregate-check-sets-4 c = search needs
+
+check-sets-requires-2 : tie.Need-check-sets-requires-2
+check-sets-requires-2 c κs =
+    let at-comms = c .before .before .before in
+    let at-check-sets = at-comms .before .before in
+    let at-chan-rows = at-check-sets .before .before .before in
+    let at-bound = at-chan-rows .before .before in
+    let at-allowed-members = at-bound .before in (
+      omega arith,
+      omega (
+        arith,
+        comm-line _ _ (at-bound .bound .ensures .tells) (at-chan-rows .chan-rows .ensures) (at-allowed-members .allowed-members .ensures)
+            (sym (at-check-sets .check-sets .ensures) ∙ at-comms .comms .given .1),
+      ),
+    )
+
+enum-known-line-2 : tie.Need-enum-known-line-2
+enum-known-line-2 c = search needs
+
+enum-known-claims : tie.Need-enum-known-claims
+enum-known-claims c = search needs
+
+slice-aggregate-check-claims : tie.Need-slice-aggregate-check-claims
+slice-aggregate-check-claims c = search needs
+
+check-claims-requires : tie.Need-check-claims-requires
+check-claims-requires c κs =
+    let at-place = c .before .before in
+    let at-claims = at-place in
+    let at-check-sets2 = at-claims .before .before in
+    let at-comms = at-check-sets2 .before .before .before .before in
+    let at-check-sets = at-comms .before .before in
+    let at-chan-rows = at-check-sets .before .before .before in
+    let at-bound = at-chan-rows .before .before in
+    let at-allowed-members = at-bound .before in
+    omega (
+      arith,
+      comm-line _ _ (at-bound .bound .ensures .tells) (at-chan-rows .chan-rows .ensures) (at-allowed-members .allowed-members .ensures)
+          (sym (at-check-sets .check-sets .ensures) ∙ at-comms .comms .given .1),
+      claim-line _ _ (at-bound .bound .ensures .tells) (at-chan-rows .chan-rows .ensures)
+          (at-allowed-members .allowed-members .ensures) (sym (at-check-sets .check-sets .ensures) ∙ at-comms .comms .given .1)
+          (sym (at-check-sets2 .check-sets2 .ensures) ∙ at-claims .claims .given .1),
+    )
+
+enum-known-line-3 : tie.Need-enum-known-line-3
+enum-known-line-3 c = search needs
+
+enum-told : tie.Need-enum-told
+enum-told c = search needs
+
+returns : tie.Need-returns
+returns c =
+    let at-line = c .before in
+    let at-check-sets = at-line .before .before in
+    let at-chan-rows = at-check-sets .before .before .before in
+    let at-bound = at-chan-rows .before .before in
+    let at-allowed-members = at-bound .before in
+    flow-fails _ _ (at-bound .bound .ensures .tells) (at-chan-rows .chan-rows .ensures) (at-allowed-members .allowed-members .ensures)
+    (sym (at-check-sets .check-sets .ensures) ∙ at-line .line .given .1)
+
+returns-2 : tie.Need-returns-2
+returns-2 c =
+    let at-line2 = c .before in
+    let at-check-sets2 = at-line2 .before .before in
+    let at-comms = at-check-sets2 .before .before .before .before in
+    let at-check-sets = at-comms .before .before in
+    let at-chan-rows = at-check-sets .before .before .before in
+    let at-bound = at-chan-rows .before .before in
+    let at-allowed-members = at-bound .before in
+    comm-fails _ _ (at-bound .bound .ensures .tells) (at-chan-rows .chan-rows .ensures) (at-allowed-members .allowed-members .ensures)
+    (sym (at-check-sets .check-sets .ensures) ∙ at-comms .comms .given .1) (sym (at-check-sets2 .check-sets2 .ensures) ∙ at-line2 .line2 .given .1)
+
+returns-3 : tie.Need-returns-3
+returns-3 c =
+    let at-line3 = c .before in
+    let at-check-claims = at-line3 .before .before in
+    let at-claims = at-check-claims .before .before .before in
+    let at-check-sets2 = at-claims .before .before in
+    let at-comms = at-check-sets2 .before .before .before .before in
+    let at-check-sets = at-comms .before .before in
+    let at-chan-rows = at-check-sets .before .before .before in
+    let at-bound = at-chan-rows .before .before in
+    let at-allowed-members = at-bound .before in
+    claim-fails _ _ (at-bound .bound .ensures .tells) (at-chan-rows .chan-rows .ensures) (at-allowed-members .allowed-members .ensures)
+    (sym (at-check-sets .check-sets .ensures) ∙ at-comms .comms .given .1) (sym (at-check-sets2 .check-sets2 .ensures) ∙ at-claims .claims .given .1)
+    (sym (at-check-claims .check-claims .ensures) ∙ at-line3 .line3 .given .1)
+
+returns-4 : tie.Need-returns-4
+returns-4 c =
+    let at-check-claims = c .before .before in
+    let at-claims = at-check-claims .before .before .before in
+    let at-check-sets2 = at-claims .before .before in
+    let at-comms = at-check-sets2 .before .before .before .before in
+    let at-check-sets = at-comms .before .before in
+    let at-chan-rows = at-check-sets .before .before .before in
+    let at-bound = at-chan-rows .before .before in
+    let at-allowed-members = at-bound .before in
+    none-fails _ _ (at-bound .bound .ensures .tells) (at-chan-rows .chan-rows .ensures) (at-allowed-members .allowed-members .ensures)
+    (sym (at-check-sets .check-sets .ensures) ∙ at-comms .comms .given .1) (sym (at-check-sets2 .check-sets2 .ensures) ∙ at-claims .claims .given .1)
+    (sym (at-check-claims .check-claims .ensures) ∙ c .enum-told .given .1)
+
+pub not-allowed-spec : {M : Type 1} → statement M
+not-allowed-spec =
+    tie.close
+    (tie.spec
+    allowed-members-requires
+    bound-requires
+    chan-rows-requires
+    add-flows
+    slice-aggregate-check-sets
+    slice-aggregate-check-sets-2
+    check-sets-requires
+    enum-known-line
+    enum-known-comms
+    slice-aggregate-check-sets-3
+    slice-aggregate-check-sets-4
+    check-sets-requires-2
+    enum-known-line-2
+    enum-known-claims
+    slice-aggregate-check-claims
+    check-claims-requires
+    enum-known-line-3
+    enum-told
+    returns
+    returns-2
+    returns-3
+    returns-4)

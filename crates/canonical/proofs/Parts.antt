@@ -1,0 +1,119 @@
+-- The parts of a store: its first rows in turn, what stands behind them, the sets and the claims.
+use Prim.Native.Nat.{ℕ, zero, suc, _+_, _*_, _-_, _≤_, _<_}
+use native.Mathlib.Omega.{arith}
+use mathlib.Core.Bool.{Bool, true, false, _&&_}
+use mathlib.Core.List.{List, [], _∷_}
+use mathlib.Core.Path.{_≡_, refl, sym, ap, _∙_}
+use lib.ListN.{length, getD, take, drop, length-drop}
+use lib.Seq.{take-all, take-nil}
+use lib.Dec.{ltb, eqb}
+use borrow.Author.Tests.{lt-ltb, le-ltb, eq-eqb, ne-eqb}
+use Rattle.program.specs.Test.{pick, all}
+use Rattle.program.specs.Each.{every}
+use Rattle.format.specs.Text.{Bytes}
+use Rattle.format.specs.Limits.{rowLimit}
+use Rattle.calls.specs.Layout.{rowSize, rowsSize, setsSize, storeSize, claimsStart, codeLimit}
+use Rattle.calls.specs.Canonical.{rowSound, rowsSound, restZero, flagsSound, claimsSound}
+
+abbrev Below : ℕ → Bytes → Bool
+Below limit bs = every (λ x. ltb x limit) bs
+
+-- ---- the first rows, from the last down
+
+-- the rows below one that is sound are what is left to test
+abbrev pub SoundTo : Bytes → ℕ → ℕ → Type 0
+SoundTo s n left = rowsSound n s ≡ rowsSound left s
+
+abbrev rowAt : Bytes → ℕ → Bytes
+rowAt s r = take rowSize (drop (r * rowSize) s)
+
+rows-step : (s : Bytes) (r : ℕ) → rowsSound (suc r) s ≡ (rowSound (rowAt s r) && rowsSound r s)
+unfolding rowsSound all
+rows-step s r = refl
+
+-- row r as the code cuts it out
+abbrev pub rowPart : Bytes → ℕ → Bytes
+rowPart s r = take (r * rowSize + rowSize - r * rowSize) (drop (r * rowSize) s)
+
+part-is : (s : Bytes) (r : ℕ) → rowPart s r ≡ rowAt s r
+part-is s r = let q : r * rowSize + rowSize - r * rowSize ≡ rowSize = omega arith in rw q
+
+pub rows-go : (s : Bytes) (n left : ℕ) → 0 < left → SoundTo s n left → rowSound (rowPart s (left - 1)) ≡ true → SoundTo s n (left - 1)
+rows-go s n left l h e =
+    let q : left ≡ suc (left - 1) = omega arith in
+    h ∙ ap (λ (m : ℕ). rowsSound m s) q ∙ rows-step s (left - 1) ∙ rw (← part-is s (left - 1), e)
+
+pub rows-fail : (s : Bytes) (n left : ℕ) → 0 < left → SoundTo s n left → rowSound (rowPart s (left - 1)) ≡ false → false ≡ rowsSound n s
+rows-fail s n left l h e =
+    let q : left ≡ suc (left - 1) = omega arith in
+    sym (h ∙ ap (λ (m : ℕ). rowsSound m s) q ∙ rows-step s (left - 1) ∙ rw (← part-is s (left - 1), e))
+
+pub rows-end : (s : Bytes) (n left : ℕ) → left ≤ 0 → SoundTo s n left → true ≡ rowsSound n s
+unfolding rowsSound all
+rows-end s n left l h = let q : left ≡ 0 = omega arith in sym (h ∙ ap (λ (m : ℕ). rowsSound m s) q)
+
+-- ---- the rest
+
+pub below-zero : (bs : Bytes) → every (λ b. eqb b 0) bs ≡ Below 1 bs
+unfolding every
+below-zero [] = refl
+below-zero (b ∷ bs) = rw (below-zero bs, zero-test b)
+  where
+    zero-test : (n : ℕ) → eqb n 0 ≡ ltb n 1
+    zero-test zero = refl
+    zero-test (suc n) = ne-eqb (suc n) 0 (λ e. omega (arith, e)) ∙ sym (le-ltb (suc n) 1 (omega arith))
+
+drop-take : (m n : ℕ) (s : Bytes) → drop m (take n s) ≡ take (n - m) (drop m s)
+drop-take zero n s = let q : n - 0 ≡ n = omega arith in rw q
+drop-take (suc m) zero s = let q : zero - suc m ≡ zero = omega arith in rw q
+drop-take (suc m) (suc n) [] = sym (take-nil (suc n - suc m))
+drop-take (suc m) (suc n) (x ∷ xs) = let q : suc n - suc m ≡ n - m = omega arith in rw q (drop-take m n xs)
+
+pub rest-is : (s : Bytes) (n : ℕ) → restZero n s ≡ Below 1 (take (rowsSize - n * rowSize) (drop (n * rowSize) s))
+unfolding restZero
+rest-is s n = below-zero (drop (n * rowSize) (take rowsSize s)) ∙ ap (Below 1) (drop-take (n * rowSize) rowsSize s)
+
+pub flags-are : (s : Bytes) → flagsSound s ≡ Below 2 (take (claimsStart - rowsSize) (drop rowsSize s))
+unfolding flagsSound
+flags-are s = refl
+
+pub claims-are : (s : Bytes) → claimsSound s ≡ Below codeLimit (take (length s - (claimsStart)) (drop (claimsStart) s))
+unfolding claimsSound
+claims-are s = ap (Below codeLimit) (sym (take-all (length s - (claimsStart)) (drop (claimsStart) s) (rw (length-drop (claimsStart) s) (omega arith))))
+
+-- ---- the tests in turn
+
+module _ (s : Bytes) (n : ℕ) where
+  abbrev pub Tests : Bool
+  Tests = ltb 0 n && rowsSound n s && restZero n s && flagsSound s && claimsSound s
+
+  abbrev pub restPart : Bytes
+  restPart = take (rowsSize - n * rowSize) (drop (n * rowSize) s)
+
+  abbrev pub flagsPart : Bytes
+  flagsPart = take (claimsStart - rowsSize) (drop rowsSize s)
+
+  abbrev pub claimsPart : Bytes
+  claimsPart = take (length s - (claimsStart)) (drop (claimsStart) s)
+
+  above : (n ≡ 0 → ⊥) → ltb 0 n ≡ true
+  above h = lt-ltb 0 n (go n h)
+    where
+      go : (m : ℕ) → (m ≡ 0 → ⊥) → 0 < m
+      go zero f = absurd (f refl)
+      go (suc m) f = omega arith
+
+  pub no-rows : n ≡ 0 → false ≡ Tests
+  no-rows e = rw (e, le-ltb 0 0 (omega arith))
+
+  pub rows-unsound : (n ≡ 0 → ⊥) → rowsSound n s ≡ false → false ≡ Tests
+  rows-unsound some r = rw (above some, r)
+
+  pub rest-unsound : (n ≡ 0 → ⊥) → rowsSound n s ≡ true → Below 1 restPart ≡ false → false ≡ Tests
+  rest-unsound some r z = rw (above some, r, rest-is s n, z)
+
+  pub flags-unsound : (n ≡ 0 → ⊥) → rowsSound n s ≡ true → Below 1 restPart ≡ true → Below 2 flagsPart ≡ false → false ≡ Tests
+  flags-unsound some r z f = rw (above some, r, rest-is s n, z, flags-are s, f)
+
+  pub claims-decide : (n ≡ 0 → ⊥) → rowsSound n s ≡ true → Below 1 restPart ≡ true → Below 2 flagsPart ≡ true → Below codeLimit claimsPart ≡ Tests
+  claims-decide some r z f = rw (above some, r, rest-is s n, z, flags-are s, f, claims-are s)

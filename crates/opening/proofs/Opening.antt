@@ -1,0 +1,96 @@
+-- Opening a store: the tests of its bytes, then those of its structure.
+use Prim.Native.Nat.{ℕ, _≤_, _<_}
+use native.Mathlib.Omega.{arith}
+use mathlib.Core.Bool.{Bool, true, false, not, _&&_}
+use mathlib.Core.Option.{none, some}
+use mathlib.Core.Path.{_≡_, refl, sym, ap, _∙_, subst}
+use lib.ListN.{length, take}
+use lib.Dec.{ltb, eqb}
+use borrow.Author.Tests.{lt-ltb, le-ltb, ltb-false}
+use Rattle.program.specs.Each.{every}
+use Rattle.format.specs.declared.Refusal.{Refusal}
+use Rattle.format.specs.declared.Reason.the-variants.{StoreTooShort, StoreEmpty, StoreUnsound}
+use Rattle.format.specs.Limits.{rowLimit}
+use Rattle.format.specs.Text.{Bytes}
+use Rattle.format.specs.Refusals.{refusal, Result, refused, accepted}
+use Rattle.format.specs.Document.{Document}
+use Rattle.format.specs.Structure.{structureFault}
+use Rattle.calls.specs.Layout.{storeSize, decode}
+use Rattle.calls.specs.Calls.{isEmpty, unsound, openedFixed, opened}
+use Rattle.calls.specs.Canonical.{countRows, rowsSound, restZero, flagsSound, claimsSound, canonical}
+use Rattle.calls.proofs.Canonical.{sound-test}
+use Rattle.store.specs.Document.{storeDocument}
+use Rattle.store.proofs.Document.{document-is}
+use Rattle.opening.specs.declared.Opened.{Opened}
+use Rattle.opening.specs.Opening.{OpenedIs}
+
+module _ (s : Bytes) (size : length s ≡ storeSize) where
+  abbrev Tests : ℕ → Bool
+  Tests n = ltb 0 n && rowsSound n s && restZero n s && flagsSound s && claimsSound s
+
+  tests-are : (n : ℕ) → n ≡ countRows rowLimit s → canonical s ≡ Tests n
+  unfolding canonical
+  tests-are n e = rw e refl
+
+  pub empty-refused : every (λ x. eqb x 0) s ≡ true → OpenedIs (openedFixed s) s (Opened.Refused (refusal StoreEmpty 0))
+  unfolding openedFixed isEmpty
+  empty-refused e = rw (e, openedFixed) refl
+
+  -- 22 is given where the tests fail
+  pub unsound-refused : every (λ x. eqb x 0) s ≡ false → unsound s ≡ true → OpenedIs (openedFixed s) s (Opened.Refused (refusal StoreUnsound 0))
+  unfolding openedFixed isEmpty
+  unsound-refused e u = rw (e, u, openedFixed) refl
+
+  pub store-opens : (n : ℕ) → n ≡ countRows rowLimit s → every (λ x. eqb x 0) s ≡ false → unsound s ≡ false → OpenedIs (openedFixed s) s (Opened.Rows n)
+  unfolding openedFixed isEmpty
+  store-opens n e z u = rw (z, u, openedFixed) (record { document-is = refl; answer-is = ap Opened.Rows e })
+
+  pub tests-refuse : (n : ℕ) → n ≡ countRows rowLimit s → Tests n ≡ false → true ≡ unsound s
+  tests-refuse n e t = sym (sound-test s size ∙ rw (tests-are n e, t))
+
+  pub structure-refuses : (n : ℕ) → n ≡ countRows rowLimit s → (r : Refusal) → some r ≡ structureFault (storeDocument n s) → true ≡ unsound s
+  structure-refuses n e r f =
+      let q : structureFault (decode s) ≡ some r = ap structureFault (sym (document-is n s (omega (arith, size)) e)) ∙ sym f in
+      sym (sound-test s size ∙ rw q (go (canonical s)))
+    where
+      go : (b : Bool) → not (b && false) ≡ true
+      go true = refl
+      go false = refl
+
+  pub tests-pass : (n : ℕ) → n ≡ countRows rowLimit s → Tests n ≡ true → none ≡ structureFault (storeDocument n s) → false ≡ unsound s
+  tests-pass n e t f =
+      let q : structureFault (decode s) ≡ none = ap structureFault (sym (document-is n s (omega (arith, size)) e)) ∙ sym f in
+      sym (sound-test s size ∙ rw (q, tests-are n e, t))
+
+-- ---- a store at the head of a slice
+
+pub too-short-refused : (s : Bytes) → length s < storeSize → OpenedIs (opened s) (take storeSize s) (Opened.Refused (refusal StoreTooShort 0))
+unfolding opened
+too-short-refused s l = rw (lt-ltb (length s) storeSize l, opened) refl
+
+pub fixed-opened : (s : Bytes) (o : Opened) → storeSize ≤ length s → OpenedIs (openedFixed (take storeSize s)) (take storeSize s) o → OpenedIs (opened s) (take storeSize s) o
+unfolding opened
+fixed-opened s o l h = rw (le-ltb (length s) storeSize l, opened) h
+
+-- ---- what the answer tells of the store
+
+module _ (fixed : Bytes) where
+  pub refused-is : (x : Result Document) (r : Refusal) → OpenedIs x fixed (Opened.Refused r) → x ≡ refused r
+  refused-is (refused q) r h = let same : r ≡ q = cc in rw (← same)
+  refused-is (accepted d) r h = let w = h .answer-is in let z : _≡_ {A = ℕ} 0 1 = cc in absurd (omega arith)
+
+  pub opens-is : (x : Result Document) (n : ℕ) → OpenedIs x fixed (Opened.Rows n) → (x ≡ accepted (decode fixed)) × (n ≡ countRows rowLimit fixed)
+  opens-is (refused q) n h = let z : _≡_ {A = ℕ} 0 1 = cc in absurd (omega arith)
+  opens-is (accepted d) n h = let w = h .answer-is in let same : n ≡ countRows rowLimit fixed = cc in (ap accepted (h .document-is), same)
+
+short-store : (store : Bytes) → ltb (length store) storeSize ≡ true → opened store ≡ refused (refusal StoreTooShort 0)
+unfolding opened
+short-store store e = rw (e, opened)
+
+-- a store that opens is long enough
+pub opens-long : (store : Bytes) (n : ℕ) → OpenedIs (opened store) (take storeSize store) (Opened.Rows n) → storeSize ≤ length store
+opens-long store n h = go (ltb (length store) storeSize) refl
+  where
+    go : (b : Bool) → ltb (length store) storeSize ≡ b → storeSize ≤ length store
+    go true e = let k = subst (λ (x : Result Document). OpenedIs x (take storeSize store) (Opened.Rows n)) (short-store store e) h in let z : _≡_ {A = ℕ} 0 1 = cc in absurd (omega arith)
+    go false e = ltb-false (length store) storeSize e

@@ -1,0 +1,128 @@
+// Refusals 6 and 7: the smallest row with a wrong pointer, and the smallest with a name bound earlier.
+use few::Few;
+use few::binders_of;
+use few::pointers_of;
+use seen::with_few;
+use store::NO_ROW;
+use store::row_at;
+ghost use mathlib.Core.Path.{_≡_};
+ghost use mathlib.Core.Bool.{not, _&&_};
+ghost use mathlib.Core.List.{List};
+ghost use Prim.Native.Nat.{ℕ};
+ghost use lib.Dec.{ltb};
+ghost use Rattle.program.specs.Test.{least};
+ghost use Rattle.program.specs.Each.{collect, elem};
+ghost use Rattle.program.specs.Program.{pointers, binders};
+ghost use Rattle.format.specs.Structure.{pointerFault, binderFault};
+ghost use Rattle.store.specs.Rows.{storeProgram, rowOr};
+ghost use Rattle.pointers.specs.Numbers.{flag, numbersOf, stray, strays};
+ghost use Rattle.pointers.specs.Seen.{Marks};
+
+mod few; // few.rt: the rows that a row points at, and the names that it binds
+mod seen; // seen.rt: the numbers that were seen so far
+
+pub use seen::Seen;
+pub use seen::larger;
+
+// 1 if row r may not point at row t: it is absent or not greater.
+fn is_stray(rows: u8, r: u8, t: u8) -> u8
+    ensures { λ m. ⌜ m ≡ flag (stray rows r t) ⌝ }
+{
+    if t <= r {
+        return 1;
+    }
+    if rows <= t {
+        return 1;
+    }
+    0
+}
+
+// 1 if row r may not point at one of these rows.
+fn has_stray(rows: u8, r: u8, few: Few) -> u8
+    ensures { λ m. ⌜ m ≡ flag (strays rows r (numbersOf few)) ⌝ }
+{
+    match few {
+        Few::Zero => 0,
+        Few::One(a) => is_stray(rows, r, a),
+        Few::Two(a, b) => larger(is_stray(rows, r, a), is_stray(rows, r, b)),
+        Few::Three(a, b, c) => larger(
+            is_stray(rows, r, a),
+            larger(is_stray(rows, r, b), is_stray(rows, r, c)),
+        ),
+    }
+}
+
+// The rows that the first rows point at.
+fn pointed(store: &[u8], rows: u8) -> Seen
+    ensures { λ x. ⌜ Marks (collect pointers (storeProgram rows (now (store .entry)))) (x .marks) ⌝ }
+{
+    let mut seen = Seen::none();
+    let mut r = 0;
+    while r < rows {
+        seen = with_few(seen, pointers_of(row_at(store, r)));
+        r += 1;
+    }
+    seen
+}
+
+// The names that the first rows bind.
+pub fn bound(store: &[u8], rows: u8) -> Seen
+    ensures { λ x. ⌜ Marks (collect binders (storeProgram rows (now (store .entry)))) (x .marks) ⌝ }
+{
+    let mut seen = Seen::none();
+    let mut r = 0;
+    while r < rows {
+        seen = with_few(seen, binders_of(row_at(store, r)));
+        r += 1;
+    }
+    seen
+}
+
+// The smallest row with a name that is bound earlier, or NO_ROW.
+pub fn binder_fault(store: &[u8], rows: u8) -> u8
+    ensures { λ m. ⌜ m ≡ rowOr (least rows (binderFault (storeProgram rows (now (store .entry))))) ⌝ }
+{
+    let mut seen = Seen::none();
+    let mut r = 0;
+    while r < rows {
+        seen = with_few(seen, binders_of(row_at(store, r)));
+        if seen.again != 0 {
+            return r;
+        }
+        r += 1;
+    }
+    NO_ROW
+}
+
+// 1 if row r, which is not row 0, is not among the rows that are pointed at.
+fn is_lost(all: Seen, r: u8) -> u8
+    ensures { λ m. ⌜ ((xs : List ℕ) → Marks xs (all .marks) → m ≡ flag (ltb 0 r && not (elem r xs))) ⌝ }
+{
+    if r == 0 {
+        return 0;
+    }
+    let marks = all.marks;
+    if marks[r as usize] == 0 {
+        return 1;
+    }
+    0
+}
+
+// The smallest row with a pointer to a row that is absent, not greater or pointed at earlier, or that no row points at; or NO_ROW.
+pub fn pointer_fault(store: &[u8], rows: u8) -> u8
+    ensures { λ m. ⌜ m ≡ rowOr (least rows (pointerFault (storeProgram rows (now (store .entry))))) ⌝ }
+{
+    let all = pointed(store, rows);
+    let mut seen = Seen::none();
+    let mut r = 0;
+    while r < rows {
+        let few = pointers_of(row_at(store, r));
+        seen = with_few(seen, few);
+        let wrong = larger(has_stray(rows, r, few), is_lost(all, r));
+        if larger(seen.again, wrong) != 0 {
+            return r;
+        }
+        r += 1;
+    }
+    NO_ROW
+}

@@ -1,2 +1,0 @@
--- The document that the functions of this crate write.
-pub mod Texts
