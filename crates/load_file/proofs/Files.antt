@@ -29,9 +29,11 @@ use Rattle.calls.proofs.Codec.Sparse.{counting-length}
 use Rattle.calls.proofs.Canonical.{rows-decoded}
 use Rattle.store.specs.Rows.{storeRow, storeProgram, cellsAt}
 use Rattle.store.proofs.Laws.{row-cells}
-use Rattle.load_lines.specs.declared.Progress.{Progress}
+use Rattle.progress.specs.declared.Progress.{Progress}
 use Rattle.load_lines.specs.declared.FileRead.{FileRead}
-use Rattle.load_lines.specs.Progress.{Matches, Stored, Past, FileAnswer, FileIs}
+use Rattle.progress.specs.Progress.{Matches}
+use Rattle.load_line.specs.Line.{Stored, Past}
+use Rattle.load_lines.specs.File.{FileAnswer, FileIs}
 use Rattle.structure.specs.declared.Structure.the-variants.{Refused}
 use Rattle.structure.specs.Lines.{storeDocument}
 use Rattle.structure.proofs.Checking.{document-decodes}

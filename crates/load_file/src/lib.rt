@@ -4,7 +4,7 @@ use calls::LoadAnswer;
 use format::Reason;
 use format::Refusal;
 use load_lines::FileRead;
-use load_lines::Progress;
+use progress::Progress;
 use store::Store;
 use structure::Structure;
 ghost use Prim.Native.Nat.{_≤_};

@@ -20,11 +20,13 @@ use Rattle.format.specs.Print.{header}
 use Rattle.format.specs.Document.{Document, Line}
 use Rattle.format.specs.Read.{present, readLine, lineFault, add, noLines, readLines, readFile}
 use Rattle.calls.specs.Layout.{storeSize}
-use Rattle.load_lines.specs.declared.Progress.{Progress}
-use Rattle.load_lines.specs.declared.LineRead.{LineRead}
+use Rattle.progress.specs.declared.Progress.{Progress}
+use Rattle.load_line.specs.declared.LineRead.{LineRead}
 use Rattle.load_lines.specs.declared.FileRead.{FileRead}
-use Rattle.load_lines.specs.Progress.{Matches, Small, SmallAnswer, Stored, Past, FaultIs, AnswerIs, LineIs, lineRefusal, FileKept, FileAnswer, FileIs}
-use Rattle.load_lines.proofs.Faults.{present-length}
+use Rattle.progress.specs.Progress.{Matches, Small}
+use Rattle.load_line.specs.Line.{SmallAnswer, Stored, Past, FaultIs, AnswerIs, LineIs}
+use Rattle.load_lines.specs.File.{lineRefusal, FileKept, FileAnswer, FileIs}
+use Rattle.progress.proofs.Faults.{present-length}
 
 pub record Reading (file : Bytes) (start : ℕ) (store₀ store : Bytes) (at line : ℕ) (p : Progress) (left : ℕ) : Type 0 where
   pub doc : Document
