@@ -16,9 +16,9 @@ use Rattle.calls.specs.Layout.{storeSize, decode}
 use Rattle.calls.specs.Canonical.{countRows}
 use Rattle.calls.specs.Judging.{judgeDocument}
 use Rattle.calls.specs.Calls.{opened, andThen, judgeAnswered, verdictGiven, verdictOf, judge, verdict}
-use Rattle.entry.specs.declared.Opened.{Opened}
-use Rattle.entry.specs.Opening.{OpenedIs}
-use Rattle.entry.proofs.Opening.{refused-is, opens-is, opens-long}
+use Rattle.opening.specs.declared.Opened.{Opened}
+use Rattle.opening.specs.Opening.{OpenedIs}
+use Rattle.opening.proofs.Opening.{refused-is, opens-is, opens-long}
 
 module _ (store : Bytes) where
   abbrev fixed : Bytes

@@ -4,9 +4,9 @@ use calls::LoadAnswer;
 use calls::VerdictAnswer;
 use calls::VerdictStatus;
 use calls::WriteAnswer;
-use entry::Opened;
 use format::Reason;
 use format::Refusal;
+use opening::Opened;
 use store::Store;
 ghost use mathlib.Core.Path.{_≡_};
 ghost use Rattle.calls.specs.Calls.{load, judge, verdict, write};
@@ -29,7 +29,7 @@ pub fn load(file: &[u8], store: &mut [u8]) -> LoadAnswer
 pub fn judge(store: &[u8]) -> JudgeAnswer
     ensures { λ a. ⌜ a ≡ judge (now (store .entry)) ⌝ }
 {
-    match entry::open(store) {
+    match opening::open(store) {
         Opened::Refused(refusal) => JudgeAnswer::Refused(refusal),
         Opened::Rows(rows) => judging::judge_rows(&store[..Store::SIZE], rows),
     }
@@ -39,7 +39,7 @@ pub fn judge(store: &[u8]) -> JudgeAnswer
 pub fn verdict(store: &[u8], channel: usize) -> VerdictAnswer
     ensures { λ a. ⌜ a ≡ verdict (now (store .entry)) channel ⌝ }
 {
-    match entry::open(store) {
+    match opening::open(store) {
         Opened::Refused(refusal) => VerdictAnswer {
             status: VerdictStatus::Refused(refusal),
             words: [false, false, false, false],
@@ -52,7 +52,7 @@ pub fn verdict(store: &[u8], channel: usize) -> VerdictAnswer
 pub fn write(store: &[u8], out: &mut [u8]) -> WriteAnswer
     ensures { λ a. ⌜ Leaves (write (now (store .entry)) (now (out .entry))) a (now (out .exit)) ⌝ }
 {
-    match entry::open(store) {
+    match opening::open(store) {
         Opened::Refused(refusal) => WriteAnswer::Refused(refusal),
         Opened::Rows(rows) => {
             let length = writing::document_length(store, rows);

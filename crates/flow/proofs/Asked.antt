@@ -12,7 +12,7 @@ use Rattle.program.proofs.Form as form
 use Rattle.program.specs.declared.Form.{Form}
 use Rattle.program.specs.Maybe.{when}
 use Rattle.program.specs.Test.{_⇒_, all}
-use Rattle.program.specs.Program.{Program, rowAt, recvAt}
+use Rattle.program.specs.Program.{Program, rowAt, recvAt, isChan}
 use Rattle.program.specs.Flow.{u, row, Set, Table, lies, forEach, forEachChan, keepsForm}
 use Rattle.format.specs.Text.{Bytes}
 use Rattle.store.specs.Rows.{storeProgram}
@@ -26,7 +26,7 @@ use Rattle.flow.specs.Rules.{meets, sendDemand, chanTest, sendTest, recv
 use Rattle.program.proofs.Test.{all-same}
 use Rattle.flow.proofs.Tests.{implies-and, all-and, all-false}
 use Rattle.flow.proofs.Members.{marks-lies}
-use Rattle.forms.proofs.Forms.{isChan, chan-at, every-form}
+use Rattle.forms.proofs.Forms.{chan-at, every-form}
 
 -- ---- the channels of a row: they all meet a demand exactly if they lie in the set of the rows that meet it
 

@@ -9,7 +9,7 @@ use mathlib.Core.Option.{Option, none, some}
 use Rattle.program.specs.Test.{_⇒_, all, least}
 use Rattle.program.proofs.Test.{below, Least, none-passes, smallest, least-is, none-least, and-false}
 use Rattle.format.specs.Limits.{rowLimit}
-use Rattle.flow.specs.Rules.{rowOr}
+use Rattle.store.specs.Rows.{rowOr}
 
 pub implies-true : (a : Bool) → a ⇒ true ≡ true
 implies-true true = refl

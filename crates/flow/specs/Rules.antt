@@ -1,23 +1,17 @@
 -- What a form asks of each row in its set, and the answer: the smallest row whose rule fails.
 use Prim.Native.Nat.{ℕ}
 use mathlib.Core.Bool.{Bool, true, false, _&&_}
-use mathlib.Core.Option.{Option, none, some}
+use mathlib.Core.Option.{none}
 use mathlib.Core.Path.{_≡_}
 use Rattle.program.specs.Maybe.{when}
 use Rattle.program.specs.Program.{Program, chanAt, sendAt, recvAt, pairAt, leftAt, rightAt, funAt, resultName}
 use Rattle.program.specs.Flow.{u, Set, Table, lies, forEach, forEachChan}
-use Rattle.format.specs.Limits.{rowLimit}
 use Rattle.format.specs.Text.{Bytes, byteAt}
 use Rattle.store.specs.Rows.{storeProgram}
 use Rattle.tables.specs.Tables.{storeFlow, storeComm}
 use Rattle.flow.specs.declared.channels.Demand.{Demand}
 use Rattle.flow.specs.declared.rules.Ask.{Ask}
 use Rattle.flow.specs.Sets.{Marks}
-
--- a row, or the limit for none
-unfoldable pub rowOr : Option ℕ → ℕ
-rowOr none = rowLimit
-rowOr (some r) = r
 
 -- a byte for each row: the name of the result reached from it
 unfoldable pub Names : Program → Bytes → Type 0

@@ -21,10 +21,10 @@ ghost use Rattle.program.specs.Test.{least};
 ghost use Rattle.program.specs.Flow.{row, forEach, keepsForm, keepsAt};
 ghost use Rattle.format.specs.Limits.{rowLimit};
 ghost use Rattle.calls.specs.Layout.{storeSize};
-ghost use Rattle.store.specs.Rows.{storeProgram};
+ghost use Rattle.store.specs.Rows.{storeProgram, rowOr};
 ghost use Rattle.tables.specs.Tables.{storeFlow, storeComm};
 ghost use Rattle.flow.specs.Sets.{Sized};
-ghost use Rattle.flow.specs.Rules.{rowOr, Names, Sends, sendTest, syncTest};
+ghost use Rattle.flow.specs.Rules.{Names, Sends, sendTest, syncTest};
 
 mod sets; // sets.rt: sets as bytes, and whether one lies in another
 mod rows; // rows.rt: the results that the rows come to

@@ -25,7 +25,7 @@ use Rattle.calls.specs.declared.JudgeAnswer.{JudgeAnswer}
 use Rattle.calls.specs.Layout.{wordOf, decodeClaims}
 use Rattle.calls.specs.Judging.{verdictWords}
 use Rattle.calls.proofs.Codec.Sparse.{either}
-use Rattle.structure.proofs.Checking.{claimsOn, claims-next}
+use Rattle.store.proofs.Claims.{claimsOn, claims-next}
 use Rattle.verdicts.specs.Words.{wordIn}
 use Rattle.judging.specs.Judged.{claimIn, claimsJudged}
 

@@ -12,10 +12,10 @@ ghost use mathlib.Core.List.{[], _∷_};
 ghost use Prim.Native.Nat.{_+_, _*_, _≤_};
 ghost use lib.ListN.{length, take, drop};
 ghost use Rattle.program.specs.Verdict.{reach};
-ghost use Rattle.format.specs.Limits.{rowLimit};
+ghost use Rattle.format.specs.Limits.{rowLimit, lineLimit};
 ghost use Rattle.format.specs.Refusals.{refusal};
 ghost use Rattle.format.specs.Structure.{rowLine, claimLine};
-ghost use Rattle.calls.specs.Layout.{rowsSize, setsSize, storeSize, decode, wordOf, decodeClaims};
+ghost use Rattle.calls.specs.Layout.{storeSize, decode, wordOf, decodeClaims, claimsStart};
 ghost use Rattle.calls.specs.Canonical.{countRows};
 ghost use Rattle.calls.specs.Judging.{judgeDocument};
 ghost use Rattle.calls.specs.Calls.{judgeAnswered, verdictGiven, verdictOf};
@@ -73,9 +73,9 @@ fn claim_holds(store: &[u8], rows: u8, grid: &[u8], c: u8, code: u8) -> bool
 
 // The claims in turn, the first of which has a line: 11 at the line of the first that fails, or their count.
 fn judge_claims(store: &[u8], rows: u8, grid: &[u8], line: usize) -> JudgeAnswer
-    requires { ⌜ (storeSize ≤ length (now store)) × (rows ≤ rowLimit) × (gridSize ≤ length (now grid)) × (line ≤ 4 * rowLimit) ⌝ }
+    requires { ⌜ (storeSize ≤ length (now store)) × (rows ≤ rowLimit) × (gridSize ≤ length (now grid)) × (line ≤ lineLimit) ⌝ }
     requires { ⌜ Tells rows (reach (storeProgram rows (now store)) (storeFlow (now store))) (now grid) ⌝ }
-    ensures { λ a. ⌜ (let bytes = now (store .entry) in a ≡ claimsJudged (claimIn (storeProgram rows bytes) (storeFlow bytes)) line 0 (decodeClaims 0 (take rowLimit (drop (rowsSize + setsSize + setsSize) bytes)))) ⌝ }
+    ensures { λ a. ⌜ (let bytes = now (store .entry) in a ≡ claimsJudged (claimIn (storeProgram rows bytes) (storeFlow bytes)) line 0 (decodeClaims 0 (take rowLimit (drop claimsStart bytes)))) ⌝ }
 {
     let mut held = 0;
     let mut c = 0;
@@ -102,7 +102,7 @@ fn judge_claims(store: &[u8], rows: u8, grid: &[u8], line: usize) -> JudgeAnswer
 fn claim_line(store: &[u8], rows: u8) -> usize
     requires { ⌜ length (now store) ≡ storeSize ⌝ }
     requires { ⌜ rows ≡ countRows rowLimit (now store) ⌝ }
-    ensures { λ n. ⌜ (n ≡ claimLine (decode (now (store .entry)))) × (n ≤ 4 * rowLimit) ⌝ }
+    ensures { λ n. ⌜ (n ≡ claimLine (decode (now (store .entry)))) × (n ≤ lineLimit) ⌝ }
 {
     let flows = write_sets::count_sets(&store[Store::FLOWS..]);
     let comms = write_sets::count_sets(&store[Store::COMMS..]);

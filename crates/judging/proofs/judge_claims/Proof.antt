@@ -4,10 +4,10 @@ use native.Mathlib.Omega.{arith}
 use mathlib.Core.Path.{_≡_, sym, _∙_}
 use lib.ListN.{take, drop}
 use Rattle.format.specs.Limits.{rowLimit}
-use Rattle.calls.specs.Layout.{rowsSize, setsSize, decodeClaims}
+use Rattle.calls.specs.Layout.{decodeClaims, claimsStart}
 use Rattle.store.specs.Rows.{storeProgram}
 use Rattle.tables.specs.Tables.{storeFlow}
-use Rattle.structure.proofs.Checking.{claimsOn}
+use Rattle.store.proofs.Claims.{claimsOn}
 use Rattle.judging.specs.Judged.{claimIn, claimsJudged}
 use Rattle.judging.proofs.Claiming.{judged-start, judged-none, judged-holds, judged-fails, judged-end}
 use borrow.Author.Needs.{needs}
@@ -16,13 +16,13 @@ use Rattle.judging.proofs.judge_claims.Tie as tie
 
 abbrev Inv-loop : tie.InvT-loop
 Inv-loop store rows grid line held₀ c₀ held c =
-    (c ≤ rowLimit) × (held ≤ c) × (claimsJudged (claimIn (storeProgram rows store) (storeFlow store)) line held (claimsOn store (rowsSize + setsSize + setsSize) c) ≡ claimsJudged (claimIn (storeProgram rows store) (storeFlow store)) line 0 (decodeClaims 0 (take rowLimit (drop (rowsSize + setsSize + setsSize) store))))
+    (c ≤ rowLimit) × (held ≤ c) × (claimsJudged (claimIn (storeProgram rows store) (storeFlow store)) line held (claimsOn store claimsStart c) ≡ claimsJudged (claimIn (storeProgram rows store) (storeFlow store)) line 0 (decodeClaims 0 (take rowLimit (drop claimsStart store))))
 
 abbrev μ-loop : tie.MeasureT-loop
 μ-loop store rows grid line held₀ c₀ held c = rowLimit - c
 
 loop-holds : tie.Need-loop-holds Inv-loop μ-loop
-loop-holds c = (omega arith, omega arith, judged-start _ (c .before .before .args .store .now) (rowsSize + setsSize + setsSize) _ _)
+loop-holds c = (omega arith, omega arith, judged-start _ (c .before .before .args .store .now) claimsStart _ _)
 
 add-byte-at : tie.Need-add-byte-at Inv-loop μ-loop
 add-byte-at c = search needs
