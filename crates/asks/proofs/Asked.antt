@@ -5,14 +5,14 @@ use mathlib.Core.Bool.{Bool, true, false, _&&_}
 use mathlib.Core.Path.{_≡_, refl, sym, _∙_}
 use Rattle.program.specs.declared.Form.{Form}
 use Rattle.program.specs.Test.{_⇒_, all}
-use Rattle.program.specs.Program.{Program, rowAt}
+use Rattle.program.specs.Program.{Program, rowAt, isChan}
 use Rattle.program.specs.Flow.{row, Set, Table, lies, forEach, forEachChan}
 use Rattle.format.specs.Text.{Bytes}
 use Rattle.store.specs.Rows.{storeProgram}
 use Rattle.store.proofs.Laws.{program-length}
 use Rattle.tables.specs.Tables.{storeFlow, storeComm}
 use Rattle.forms.specs.Forms.{formIn}
-use Rattle.forms.proofs.Forms.{isChan, chan-at}
+use Rattle.forms.proofs.Forms.{chan-at}
 use Rattle.sets.specs.Sets.{PassingSet, setOf}
 use Rattle.sets.proofs.Tests.{all-false}
 use Rattle.sets.proofs.Members.{marks-lies}

@@ -13,9 +13,9 @@ use Rattle.calls.specs.Layout.{storeSize, decode}
 use Rattle.calls.specs.Canonical.{countRows}
 use Rattle.calls.specs.Judging.{judgeDocument}
 use Rattle.calls.specs.Calls.{Leaves, unaltered, opened, andThen, judgeAnswered, noVerdict, verdictGiven, verdictOf, judge, verdict}
-use Rattle.entry.specs.declared.Opened.{Opened}
-use Rattle.entry.specs.Opening.{OpenedIs}
-use Rattle.entry.proofs.Opening.{refused-is, opens-is, opens-long}
+use Rattle.opening.specs.declared.Opened.{Opened}
+use Rattle.opening.specs.Opening.{OpenedIs}
+use Rattle.opening.proofs.Opening.{refused-is, opens-is, opens-long}
 
 -- what a call that only reads leaves
 pub as-it-was : {A : Type 0} {a b : A} {lent : Bytes} → a ≡ b → Leaves (unaltered b lent) a lent

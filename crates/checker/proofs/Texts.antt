@@ -4,13 +4,12 @@ use native.Mathlib.Omega.{arith}
 use mathlib.Core.Bool.{Bool, true, false}
 use mathlib.Core.List.{List, [], _∷_, _++_}
 use mathlib.Core.Path.{_≡_, refl, sym, ap, _∙_, subst}
-use lib.ListN.{length, take, drop}
+use lib.ListN.{length, take, drop, length-take}
 use lib.Seq.{sets, sets-eq}
 use lib.Dec.{ltb}
 use borrow.Author.Tests.{lt-ltb, le-ltb, ltb-false}
 use Rattle.format.specs.declared.Refusal.{Refusal}
 use Rattle.format.specs.declared.Reason.the-variants.{StoreTooShort, OutputTooShort}
-use Rattle.format.specs.Limits.{rowLimit}
 use Rattle.format.specs.Text.{Bytes}
 use Rattle.format.specs.Refusals.{refusal, Result, refused, accepted}
 use Rattle.format.specs.Document.{Document}
@@ -18,19 +17,12 @@ use Rattle.format.specs.Print.{documentText}
 use Rattle.calls.specs.declared.WriteAnswer.{WriteAnswer}
 use Rattle.calls.specs.Layout.{storeSize, decode}
 use Rattle.calls.specs.Calls.{Leaves, openedFixed, opened, andThen, written, write}
-use Rattle.calls.specs.Canonical.{countRows}
-use Rattle.calls.proofs.Canonical.{rows-decoded}
 use Rattle.text.specs.Write.{Wrote}
-use Rattle.store.specs.Rows.{storeRow, storeProgram}
-use Rattle.writing.specs.Texts.{storedDocument}
-use Rattle.entry.specs.declared.Opened.{Opened}
-use Rattle.entry.specs.Opening.{Opens, OpenedIs}
-use Rattle.entry.proofs.Opening.{refused-is, opens-is}
-
--- the document of as many rows as are counted is that of the bytes
-stored-is : (s : Bytes) (n : ℕ) → n ≡ countRows rowLimit s → storedDocument n s ≡ decode s
-unfolding storedDocument decode storeProgram storeRow
-stored-is s n e = rw (e, ← rows-decoded s) refl
+use Rattle.store.specs.Document.{storeDocument}
+use Rattle.store.proofs.Document.{document-is}
+use Rattle.opening.specs.declared.Opened.{Opened}
+use Rattle.opening.specs.Opening.{Opens, OpenedIs}
+use Rattle.opening.proofs.Opening.{refused-is, opens-is}
 
 -- a text that fits, written at the head of the output
 at-head : (text out : Bytes) → length text ≤ length out → sets out 0 text ≡ text ++ drop (length text) out
@@ -43,14 +35,14 @@ module _ (store out : Bytes) where
   fixed = take storeSize store
 
   abbrev text : ℕ → Bytes
-  text n = documentText (storedDocument n fixed)
+  text n = documentText (storeDocument n fixed)
 
   pub refused-store : (r : Refusal) → OpenedIs (opened store) fixed (Opened.Refused r) → Leaves (write store out) (WriteAnswer.Refused r) out
   unfolding write andThen written
   refused-store r h = rw (refused-is fixed (opened store) r h) (record { answer-is = refl; bytes-are = refl })
 
   opens-to : (n : ℕ) → OpenedIs (opened store) fixed (Opened.Rows n) → (d : Document) × (opened store ≡ accepted d) × (documentText d ≡ text n)
-  opens-to n h = let (e, same) = opens-is fixed (opened store) n h in (decode fixed, e, ap documentText (sym (stored-is fixed n same)))
+  opens-to n h = let (e, same) = opens-is fixed (opened store) n h in (decode fixed, e, ap documentText (sym (document-is n fixed (simp length-take (omega arith)) same)))
 
   pub no-room : (n m : ℕ) → OpenedIs (opened store) fixed (Opened.Rows n) → m ≡ length (text n) → length out < m → Leaves (write store out) (WriteAnswer.Refused (refusal OutputTooShort 0)) out
   unfolding write andThen written

@@ -3,9 +3,9 @@ use calls::JudgeAnswer;
 use calls::LoadAnswer;
 use calls::VerdictAnswer;
 use calls::WriteAnswer;
-use entry::Opened;
 use format::Reason;
 use format::Refusal;
+use opening::Opened;
 use store::Store;
 ghost use Rattle.calls.specs.Calls.{Leaves, load, judge, verdict, write, unaltered};
 
@@ -26,7 +26,7 @@ pub fn load(file: &[u8], store: &mut [u8]) -> LoadAnswer
 pub fn judge(store: &[u8]) -> JudgeAnswer
     ensures { λ a. ⌜ Leaves (unaltered (judge (now (store .entry))) (now (store .entry))) a (now (store .exit)) ⌝ }
 {
-    match entry::open(store) {
+    match opening::open(store) {
         Opened::Refused(refusal) => JudgeAnswer::Refused(refusal),
         Opened::Rows(rows) => judging::judge_rows(&store[..Store::SIZE], rows),
     }
@@ -36,7 +36,7 @@ pub fn judge(store: &[u8]) -> JudgeAnswer
 pub fn verdict(store: &[u8], channel: usize) -> VerdictAnswer
     ensures { λ a. ⌜ Leaves (unaltered (verdict (now (store .entry)) channel) (now (store .entry))) a (now (store .exit)) ⌝ }
 {
-    match entry::open(store) {
+    match opening::open(store) {
         Opened::Refused(refusal) => judging::no_verdict(refusal),
         Opened::Rows(rows) => judging::verdict_rows(&store[..Store::SIZE], rows, channel),
     }
@@ -46,7 +46,7 @@ pub fn verdict(store: &[u8], channel: usize) -> VerdictAnswer
 pub fn write(store: &[u8], out: &mut [u8]) -> WriteAnswer
     ensures { λ a. ⌜ Leaves (write (now (store .entry)) (now (out .entry))) a (now (out .exit)) ⌝ }
 {
-    match entry::open(store) {
+    match opening::open(store) {
         Opened::Refused(refusal) => WriteAnswer::Refused(refusal),
         Opened::Rows(rows) => {
             let length = writing::document_length(store, rows);

@@ -20,7 +20,7 @@ use Rattle.format.specs.Structure.{firstFailing}
 use Rattle.calls.specs.declared.JudgeAnswer.{JudgeAnswer}
 use Rattle.calls.specs.Layout.{wordOf, decodeClaims}
 use Rattle.calls.proofs.Codec.Sparse.{either}
-use Rattle.structure.proofs.Checking.{claimsOn, claims-next}
+use Rattle.store.proofs.Claims.{claimsOn, claims-next}
 use Rattle.claims.specs.Claims.{claimsJudged}
 
 -- ---- the word of a code

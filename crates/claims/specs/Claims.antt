@@ -12,7 +12,7 @@ use Rattle.format.specs.Refusals.{refusal}
 use Rattle.format.specs.Text.{Bytes}
 use Rattle.format.specs.Document.{Claim}
 use Rattle.calls.specs.declared.JudgeAnswer.{JudgeAnswer}
-use Rattle.calls.specs.Layout.{rowsSize, setsSize, decodeClaims}
+use Rattle.calls.specs.Layout.{claimsStart, decodeClaims}
 use Rattle.verdicts.specs.Words.{wordIn}
 
 -- what a claim says of a program with its table
@@ -21,7 +21,7 @@ claimIn p flow k = wordIn p flow (k .channel) (k .word)
 
 -- the claims of a store
 abbrev pub storeClaims : Bytes → List Claim
-storeClaims s = decodeClaims 0 (take rowLimit (drop (rowsSize + setsSize + setsSize) s))
+storeClaims s = decodeClaims 0 (take rowLimit (drop claimsStart s))
 
 -- claims that hold are counted, and the first that fails is refused at its line
 unfoldable pub claimsJudged : (Claim → Bool) → ℕ → ℕ → List Claim → JudgeAnswer

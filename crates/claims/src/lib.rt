@@ -5,10 +5,10 @@ use format::Refusal;
 use program::Word;
 use store::Store;
 ghost use mathlib.Core.Path.{_≡_};
-ghost use Prim.Native.Nat.{_*_, _≤_};
+ghost use Prim.Native.Nat.{_≤_};
 ghost use lib.ListN.{length};
 ghost use Rattle.program.specs.Verdict.{reach};
-ghost use Rattle.format.specs.Limits.{rowLimit};
+ghost use Rattle.format.specs.Limits.{rowLimit, lineLimit};
 ghost use Rattle.calls.specs.Layout.{storeSize, wordOf};
 ghost use Rattle.store.specs.Rows.{storeProgram};
 ghost use Rattle.tables.specs.Tables.{storeFlow};
@@ -30,7 +30,7 @@ fn word_of(code: u8) -> Word
 
 // The claims in turn, the first of which has a line: 11 at the line of the first that fails, or their count.
 pub fn judge_claims(store: &[u8], rows: u8, grid: &[u8], line: usize) -> JudgeAnswer
-    requires { ⌜ (storeSize ≤ length (now store)) × (rows ≤ rowLimit) × (gridSize ≤ length (now grid)) × (line ≤ 4 * rowLimit) ⌝ }
+    requires { ⌜ (storeSize ≤ length (now store)) × (rows ≤ rowLimit) × (gridSize ≤ length (now grid)) × (line ≤ lineLimit) ⌝ }
     requires { ⌜ Shows (reach (storeProgram rows (now store)) (storeFlow (now store))) (now grid) ⌝ }
     ensures { λ a. ⌜ (let bytes = now (store .entry) in a ≡ claimsJudged (claimIn (storeProgram rows bytes) (storeFlow bytes)) line 0 (storeClaims bytes)) ⌝ }
 {

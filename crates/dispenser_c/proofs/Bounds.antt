@@ -15,12 +15,11 @@ use Rattle.calls.specs.Answers.{Answer, turnedBack, answered, refusalAnswer, lo
 use Rattle.calls.specs.Layout.{storeSize, decode}
 use Rattle.calls.specs.Canonical.{countRows}
 use Rattle.calls.specs.Calls.{opened, andThen, load, judge, verdict, written, write}
-use Rattle.calls.proofs.Canonical.{rows-decoded}
 use Rattle.calls.proofs.Canonical.Rows.{count-rows-le}
 use Rattle.calls.proofs.Codec.Sparse.{either}
 use Rattle.calls.proofs.Bounds.{Within, line-within, values-within, OpensTo, not-opened, decoded, opens-to, load-within, judge-within, verdict-within, four-words}
-use Rattle.store.specs.Rows.{storeRow, storeProgram}
-use Rattle.writing.specs.Texts.{storedDocument}
+use Rattle.store.specs.Document.{storeDocument}
+use Rattle.store.proofs.Document.{document-is}
 use Rattle.writing.proofs.Bounds.{stored-bound}
 use Rattle.packing.specs.Packing.{packed, countBits, wordBits, numberBits, Short, Lossless}
 use Rattle.packing.proofs.Unpacking.{unpacked, load-back, judge-back, verdict-back, write-back}
@@ -43,10 +42,9 @@ abbrev textLimit : ℕ
 textLimit = 2100 * rowLimit + 40 * storeSize + 14
 
 text-bound : (s : Bytes) → length s ≤ storeSize → length (documentText (decode s)) ≤ textLimit
-unfolding storedDocument decode storeProgram storeRow
 text-bound s h =
     let n = countRows rowLimit s in
-    let same : storedDocument n s ≡ decode s = rw (← rows-decoded s) refl in
+    let same : storeDocument n s ≡ decode s = document-is n s h refl in
     rw (← same) (omega (arith, stored-bound n s, count-rows-le rowLimit s))
 
 write-within : (store out : Bytes) → Within 0 textLimit (writeAnswer (write store out .answer))

@@ -8,7 +8,7 @@ use mathlib.Core.Path.{_≡_, sym, _∙_}
 use Rattle.program.specs.Test.{least}
 use Rattle.program.proofs.Test.{Least, none-passes, smallest, least-is, none-least}
 use Rattle.format.specs.Limits.{rowLimit}
-use Rattle.flow.specs.Rules.{rowOr}
+use Rattle.store.specs.Rows.{rowOr}
 
 module _ (n : ℕ) (f : ℕ → Bool) (r : ℕ) (before : (j : ℕ) → j < r → f j ≡ true) where
   pub first-fails : r < n → f r ≡ false → r ≡ rowOr (least n λ j. not (f j))

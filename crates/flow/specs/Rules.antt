@@ -1,17 +1,10 @@
 -- What a sync asks of each row in its set, and the answer: the smallest row whose rule fails.
 use Prim.Native.Nat.{ℕ}
 use mathlib.Core.Bool.{Bool, _&&_}
-use mathlib.Core.Option.{Option, none, some}
 use Rattle.program.specs.Maybe.{when}
 use Rattle.program.specs.Program.{Program, recvAt}
 use Rattle.program.specs.Flow.{u, Set, Table, lies, forEach, forEachChan}
-use Rattle.format.specs.Limits.{rowLimit}
 use Rattle.asks.specs.Asks.{sendTest}
-
--- a row, or the limit for none
-unfoldable pub rowOr : Option ℕ → ℕ
-rowOr none = rowLimit
-rowOr (some r) = r
 
 module _ (p : Program) (flow comm : Table) where
   -- what a sync asks of a recv row, where its own set is t

@@ -21,11 +21,11 @@ ghost use Rattle.program.specs.Test.{least};
 ghost use Rattle.program.specs.Flow.{row, forEach, keepsForm, keepsAt};
 ghost use Rattle.format.specs.Limits.{rowLimit};
 ghost use Rattle.calls.specs.Layout.{storeSize};
-ghost use Rattle.store.specs.Rows.{storeProgram};
+ghost use Rattle.store.specs.Rows.{storeProgram, rowOr};
 ghost use Rattle.tables.specs.Tables.{storeFlow, storeComm};
 ghost use Rattle.sets.specs.Sets.{Sized};
 ghost use Rattle.asks.specs.Asks.{Names, Sends, sendTest};
-ghost use Rattle.flow.specs.Rules.{rowOr, syncTest};
+ghost use Rattle.flow.specs.Rules.{syncTest};
 
 // Whether row r is in the set of name n and in that of a function's own name.
 fn keeps_fun(store: &[u8], rows: u8, r: u8, n: u8, own: u8) -> bool

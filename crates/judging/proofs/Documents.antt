@@ -6,7 +6,7 @@ use mathlib.Core.List.{List, [], _∷_, map}
 use mathlib.Core.Option.{Option, none, some}
 use mathlib.Core.Path.{_≡_, refl, sym, ap, ap₂, _∙_, fun-ext}
 use lib.ListN.{length, take, drop, length-drop}
-use lib.Seq.{take-all, drop-drop}
+use lib.Seq.{take-all}
 use Rattle.program.specs.declared.Word.{Word}
 use Rattle.program.specs.Test.{least}
 use Rattle.program.specs.Program.{Program, chanRow}
@@ -24,18 +24,17 @@ use Rattle.format.specs.Structure.{rowLine, flowLine, commLine, claimLine, firs
 use Rattle.calls.specs.declared.JudgeAnswer.{JudgeAnswer}
 use Rattle.calls.specs.declared.VerdictAnswer.{VerdictAnswer}
 use Rattle.calls.specs.declared.VerdictStatus.{VerdictStatus}
-use Rattle.calls.specs.Layout.{rowsSize, setsSize, storeSize, decode, decodeSets, decodeClaims}
+use Rattle.calls.specs.Layout.{rowsSize, setsSize, storeSize, decode, decodeSets, decodeClaims, commsStart, claimsStart}
 use Rattle.calls.specs.Canonical.{countRows}
 use Rattle.calls.specs.Judging.{flowTable, commTable, wordHolds, reaches, failingRow, failingClaim, after10, judgeClaims, judgeDocument, verdictDocument, verdictWords}
 use Rattle.calls.specs.Calls.{judgeAnswered, noVerdict, verdictGiven, verdictOf}
-use Rattle.calls.proofs.Canonical.{rows-decoded}
 use Rattle.calls.proofs.Canonical.Rows.{count-rows-le}
-use Rattle.store.specs.Rows.{storeRow, storeProgram}
+use Rattle.calls.proofs.Bounds.{sets-few}
+use Rattle.store.specs.Rows.{storeProgram, rowOr}
 use Rattle.store.proofs.Laws.{program-length}
-use Rattle.structure.proofs.Checking.{sets-count}
+use Rattle.store.specs.Document.{storeDocument}
+use Rattle.store.proofs.Document.{claims-are, claim-line, rows-decode, flow-is, comm-is, document-is}
 use Rattle.tables.specs.Tables.{storeFlow, storeComm}
-use Rattle.tables.proofs.Tables.{flow-table, comm-table}
-use Rattle.flow.specs.Rules.{rowOr}
 use Rattle.verdicts.specs.Words.{wordIn}
 use Rattle.claims.specs.Claims.{claimIn, claimsJudged}
 use Rattle.claims.proofs.Claiming.{answerOf, judged-is}
@@ -47,20 +46,11 @@ module _ (n : ℕ) (s : Bytes) (rows : n ≡ countRows rowLimit s) where
   few-rows = omega (arith, rows, count-rows-le rowLimit s)
 
   rows-are : decode s .rows ≡ storeProgram n s
-  unfolding storeProgram storeRow
-  rows-are = rw (rows, ← rows-decoded s) refl
-
-  flow-is : flowTable (decode s) ≡ storeFlow s
-  unfolding flowTable decode
-  flow-is = flow-table s
-
-  comm-is : commTable (decode s) ≡ storeComm s
-  unfolding commTable decode
-  comm-is = comm-table s
+  rows-are = rows-decode s n rows
 
   word-is : (c : ℕ) (word : Word) → wordHolds (decode s) (reaches (decode s)) c word ≡ wordIn (storeProgram n s) (storeFlow s) c word
   unfolding wordHolds reaches wordIn
-  word-is c word = rw (flow-is, rows-are)
+  word-is c word = rw (flow-is s, rows-are)
 
   claim-is : (k : Claim) → claimIn (storeProgram n s) (storeFlow s) k ≡ wordHolds (decode s) (reaches (decode s)) (k .channel) (k .word)
   unfolding claimIn
@@ -73,7 +63,7 @@ module _ (n : ℕ) (s : Bytes) (rows : n ≡ countRows rowLimit s) where
 
   failing-is : failingRow (decode s) ≡ least n (λ r. not (keeps r))
   unfolding failingRow
-  failing-is = rw (flow-is, comm-is, rows-are, program-length n s)
+  failing-is = rw (flow-is s, comm-is s, rows-are, program-length n s)
 
   module _ {m : ℕ} (e : m ≡ rowOr (least n (λ r. not (keeps r)))) where
     row-fails : m < n → failingRow (decode s) ≡ some m
@@ -107,44 +97,37 @@ module _ (n : ℕ) (s : Bytes) (rows : n ≡ countRows rowLimit s) where
     part-is : (base k : ℕ) → base + k ≡ storeSize → take (length s - base) (drop base s) ≡ drop base s
     part-is base k q = take-all (length s - base) (drop base s) (simp length-drop (omega arith))
 
-    claims-are : decode s .claims ≡ decodeClaims 0 (take rowLimit (drop (rowsSize + setsSize + setsSize) s))
-    unfolding decode
-    claims-are =
-        ap (decodeClaims 0)
-        (ap (drop setsSize) (drop-drop setsSize rowsSize s)
-        ∙ drop-drop setsSize (rowsSize + setsSize) s
-        ∙ sym (take-all rowLimit (drop (rowsSize + setsSize + setsSize) s) (simp length-drop (omega (arith, size)))))
+    same-document : decode s ≡ storeDocument n s
+    same-document = sym (document-is n s (omega (arith, size)) rows)
 
-    comms-are : decode s .comms ≡ decodeSets rowLimit 0 (drop (rowsSize + setsSize) s)
-    unfolding decode
-    comms-are = ap (decodeSets rowLimit 0) (drop-drop setsSize rowsSize s)
+    claims-same-bytes : decode s .claims ≡ decodeClaims 0 (take rowLimit (drop claimsStart s))
+    claims-same-bytes = ap (λ (d : Document). d .claims) same-document ∙ claims-are n s
 
     pub flows-few : {flows : ℕ} → flows ≡ length (decodeSets rowLimit 0 (take (length s - rowsSize) (drop rowsSize s))) → flows ≤ rowLimit
-    flows-few f = omega (arith, f, sets-count rowLimit 0 (take (length s - rowsSize) (drop rowsSize s)))
+    flows-few f = omega (arith, f, sets-few rowLimit 0 (take (length s - rowsSize) (drop rowsSize s)))
 
-    pub comms-few : {comms : ℕ} → comms ≡ length (decodeSets rowLimit 0 (take (length s - (rowsSize + setsSize)) (drop (rowsSize + setsSize) s))) → comms ≤ rowLimit
-    comms-few c = omega (arith, c, sets-count rowLimit 0 (take (length s - (rowsSize + setsSize)) (drop (rowsSize + setsSize) s)))
+    pub comms-few : {comms : ℕ} → comms ≡ length (decodeSets rowLimit 0 (take (length s - commsStart) (drop commsStart s))) → comms ≤ rowLimit
+    comms-few c = omega (arith, c, sets-few rowLimit 0 (take (length s - commsStart) (drop commsStart s)))
 
     pub line-is : {flows comms : ℕ} → flows ≡ length (decodeSets rowLimit 0 (take (length s - rowsSize) (drop rowsSize s)))
-        → comms ≡ length (decodeSets rowLimit 0 (take (length s - (rowsSize + setsSize)) (drop (rowsSize + setsSize) s)))
+        → comms ≡ length (decodeSets rowLimit 0 (take (length s - commsStart) (drop commsStart s)))
         → n + 2 + flows + comms ≡ claimLine (decode s)
-    unfolding claimLine commLine flowLine decode
     line-is {flows} {comms} f c =
         let f′ : flows ≡ length (decodeSets rowLimit 0 (drop rowsSize s)) = rw (part-is rowsSize (setsSize + setsSize + rowLimit) refl) at f in
-        let c′ : comms ≡ length (decodeSets rowLimit 0 (drop (rowsSize + setsSize) s)) = rw (part-is (rowsSize + setsSize) (setsSize + rowLimit) refl) at c in
-        rw (rows-are, program-length n s, comms-are, f′, c′)
+        let c′ : comms ≡ length (decodeSets rowLimit 0 (drop commsStart s)) = rw (part-is commsStart (setsSize + rowLimit) refl) at c in
+        rw (same-document, claim-line n s, f′, c′)
 
     answer-is : (o : Option ℕ) → answerOf (length (decode s .claims)) o ≡ judgeAnswered (judgeClaims (decode s) o)
     unfolding answerOf judgeAnswered judgeClaims
     answer-is none = refl
     answer-is (some line) = refl
 
-    claims-same : claimsJudged (claimIn (storeProgram n s) (storeFlow s)) (claimLine (decode s)) 0 (decodeClaims 0 (take rowLimit (drop (rowsSize + setsSize + setsSize) s)))
+    claims-same : claimsJudged (claimIn (storeProgram n s) (storeFlow s)) (claimLine (decode s)) 0 (decodeClaims 0 (take rowLimit (drop claimsStart s)))
         ≡ judgeAnswered (judgeClaims (decode s) (failingClaim (decode s) (reaches (decode s))))
     unfolding failingClaim
     claims-same =
         let same : claimIn (storeProgram n s) (storeFlow s) ≡ (λ k. wordHolds (decode s) (reaches (decode s)) (k .channel) (k .word)) = fun-ext claim-is in
-        judged-is _ _ _ ∙ rw (← claims-are, same) (answer-is (firstFailing (λ k. wordHolds (decode s) (reaches (decode s)) (k .channel) (k .word)) (claimLine (decode s)) (decode s .claims)))
+        judged-is _ _ _ ∙ rw (← claims-same-bytes, same) (answer-is (firstFailing (λ k. wordHolds (decode s) (reaches (decode s)) (k .channel) (k .word)) (claimLine (decode s)) (decode s .claims)))
 
     module _ {m : ℕ} (e : m ≡ rowOr (least n (λ r. not (keeps r)))) where
       pub judge-refused : m < n → JudgeAnswer.Refused (refusal FlowRuleFails (rowLine m)) ≡ judgeAnswered (judgeDocument (decode s))
@@ -152,7 +135,7 @@ module _ (n : ℕ) (s : Bytes) (rows : n ≡ countRows rowLimit s) where
       judge-refused l = rw (flow-refused e l)
 
       pub judge-goes : n ≤ m → {a : JudgeAnswer} {line : ℕ} → line ≡ claimLine (decode s)
-          → a ≡ claimsJudged (claimIn (storeProgram n s) (storeFlow s)) line 0 (decodeClaims 0 (take rowLimit (drop (rowsSize + setsSize + setsSize) s)))
+          → a ≡ claimsJudged (claimIn (storeProgram n s) (storeFlow s)) line 0 (decodeClaims 0 (take rowLimit (drop claimsStart s)))
           → a ≡ judgeAnswered (judgeDocument (decode s))
       unfolding judgeDocument
       judge-goes l q h = h ∙ rw (q, flow-passed e l) claims-same

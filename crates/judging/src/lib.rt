@@ -7,9 +7,9 @@ use format::Refusal;
 use grids::GRID;
 use store::Store;
 ghost use mathlib.Core.Path.{_≡_};
-ghost use Prim.Native.Nat.{_*_, _≤_};
+ghost use Prim.Native.Nat.{_≤_};
 ghost use lib.ListN.{length};
-ghost use Rattle.format.specs.Limits.{rowLimit};
+ghost use Rattle.format.specs.Limits.{rowLimit, lineLimit};
 ghost use Rattle.format.specs.Refusals.{refusal};
 ghost use Rattle.format.specs.Structure.{rowLine, claimLine};
 ghost use Rattle.calls.specs.Layout.{storeSize, decode};
@@ -53,7 +53,7 @@ fn not_a_channel() -> VerdictAnswer
 fn claim_line(store: &[u8], rows: u8) -> usize
     requires { ⌜ length (now store) ≡ storeSize ⌝ }
     requires { ⌜ rows ≡ countRows rowLimit (now store) ⌝ }
-    ensures { λ n. ⌜ (n ≡ claimLine (decode (now (store .entry)))) × (n ≤ 4 * rowLimit) ⌝ }
+    ensures { λ n. ⌜ (n ≡ claimLine (decode (now (store .entry)))) × (n ≤ lineLimit) ⌝ }
 {
     let flows = write_sets::count_sets(&store[Store::FLOWS..]);
     let comms = write_sets::count_sets(&store[Store::COMMS..]);

@@ -1,12 +1,12 @@
 -- A file that has been read into a store: its document is the store's, and what load leaves of it.
-use Prim.Native.Nat.{ℕ, zero, suc, _+_, _*_, _≤_, _<_}
+use Prim.Native.Nat.{ℕ, _≤_, _<_}
 use mathlib.Core.Bool.{So}
-use mathlib.Core.List.{_∷_, _++_}
+use mathlib.Core.List.{_++_}
 use mathlib.Core.Option.{none, some}
 use mathlib.Core.Path.{_≡_, refl, sym, ap, _∙_, subst}
 use native.Mathlib.Omega.{arith}
 use lib.ListN.{length, take, drop, replicate, length-replicate, length-append, take-append-drop}
-use lib.Seq.{getD-take, take-at, drop-at}
+use lib.Seq.{take-at, drop-at}
 use borrow.Author.Tests.{lt-ltb, le-ltb}
 use Rattle.format.specs.declared.Refusal.{Refusal}
 use Rattle.format.specs.declared.Reason.the-variants.{TooLong, StoreTooShort}
@@ -20,63 +20,35 @@ use Rattle.format.specs.Structure.{structureFault}
 use Rattle.format.specs.Check.{checkStructure, checkAny, check}
 use Rattle.format.proofs.Files.{print-read}
 use Rattle.calls.specs.declared.LoadAnswer.{LoadAnswer}
-use Rattle.calls.specs.Layout.{storeSize, rowSize, counting, decode}
+use Rattle.calls.specs.Layout.{storeSize, decode}
 use Rattle.calls.specs.Calls.{Leaves, counts, refilled, loaded, load}
 use Rattle.calls.specs.Canonical.{countRows}
 use Rattle.calls.proofs.Codec.{decode-encode}
 use Rattle.calls.proofs.Codec.Adding.{encode-none}
 use Rattle.calls.proofs.Codec.Sparse.{counting-length}
 use Rattle.calls.proofs.Canonical.{rows-decoded}
-use Rattle.store.specs.Rows.{storeRow, storeProgram, cellsAt}
-use Rattle.store.proofs.Laws.{row-cells}
+use Rattle.store.specs.Document.{storeDocument}
+use Rattle.store.proofs.Document.{head-is}
 use Rattle.progress.specs.declared.Progress.{Progress}
-use Rattle.load_lines.specs.declared.FileRead.{FileRead}
 use Rattle.progress.specs.Progress.{Matches}
 use Rattle.load_line.specs.Line.{Stored, Past}
+use Rattle.load_lines.specs.declared.FileRead.{FileRead}
 use Rattle.load_lines.specs.File.{FileAnswer, FileIs}
 use Rattle.structure.specs.declared.Structure.the-variants.{Refused}
-use Rattle.structure.specs.Lines.{storeDocument}
-use Rattle.structure.proofs.Checking.{document-decodes}
 use Rattle.load_file.specs.Finish.{Finishes}
 
--- ---- the rows at the head of a slice
-
-head-row : (s : Bytes) (r : ℕ) → r < rowLimit → storeRow (take storeSize s) r ≡ storeRow s r
-unfolding cellsAt
-head-row s r h =
-    let p = r * rowSize in
-    rw (row-cells (take storeSize s) r, row-cells s r)
-    (simp (
-      getD-take storeSize s p 0 (omega arith),
-      getD-take storeSize s (p + 1) 0 (omega arith),
-      getD-take storeSize s (p + 2) 0 (omega arith),
-      getD-take storeSize s (p + 3) 0 (omega arith),
-      getD-take storeSize s (p + 4) 0 (omega arith),
-      getD-take storeSize s (p + 5) 0 (omega arith),
-      getD-take storeSize s (p + 6) 0 (omega arith),
-      getD-take storeSize s (p + 7) 0 (omega arith),
-    ))
-
-counting-same : {A : Type 0} (n i : ℕ) (f g : ℕ → A) → ((r : ℕ) → r < n + i → f r ≡ g r) → counting n i f ≡ counting n i g
-unfolding counting
-counting-same zero i f g h = refl
-counting-same (suc n) i f g h = rw (h i (omega arith)) (ap (λ xs. g i ∷ xs) (counting-same n (suc i) f g λ r l. h r (omega arith)))
+-- ---- the document of a store that holds one
 
 module _ (s : Bytes) (d : Document) (ok : So (orderly d)) (held : Stored s d) where
   decoded : decode (take storeSize s) ≡ d
   decoded = ap decode held ∙ decode-encode d ok
-
-  rows-here : (n : ℕ) → n ≤ rowLimit → n ≡ countRows rowLimit (take storeSize s) → decode (take storeSize s) .rows ≡ storeProgram n s
-  unfolding storeProgram storeRow
-  rows-here n h e = rows-decoded (take storeSize s) ∙ rw (← e) (counting-same n 0 (storeRow (take storeSize s)) (storeRow s) λ r l. head-row s r (omega arith))
 
   count-is : length (d .rows) ≡ countRows rowLimit (take storeSize s)
   count-is = ap (λ (x : Document). length (x .rows)) (sym decoded) ∙ ap length (rows-decoded (take storeSize s)) ∙ counting-length (countRows rowLimit (take storeSize s)) 0 _
 
   -- the document of the first rows of the store is the one that it holds
   pub store-document : (n : ℕ) → n ≤ rowLimit → n ≡ length (d .rows) → storeDocument n s ≡ d
-  unfolding decode
-  store-document n h e = sym (document-decodes n s (rows-here n h (e ∙ count-is))) ∙ decoded
+  store-document n h e = head-is n s (e ∙ count-is) ∙ decoded
 
 -- ---- what load leaves
 

@@ -1,9 +1,9 @@
 // What the programs print of a file: the count of its claims and each channel's verdict, or its refusal.
 use calls::JudgeAnswer;
 use calls::LoadAnswer;
-use entry::Opened;
 use format::Refusal;
 use grids::GRID;
+use opening::Opened;
 use store::Store;
 ghost use Prim.Native.Nat.{_≤_};
 ghost use lib.ListN.{length};
@@ -71,7 +71,7 @@ fn print_channels(store: &[u8], rows: u8, grid: &[u8])
 
 // Judges a loaded store and prints `[accepted N]` and the channels, or the refusal.
 fn print_judged(store: &[u8]) {
-    match entry::open(store) {
+    match opening::open(store) {
         Opened::Refused(refusal) => print_refusal(refusal),
         Opened::Rows(rows) => {
             let fixed = &store[..Store::SIZE];

@@ -15,7 +15,7 @@ use Rattle.program.specs.Flow.{u, Set, forEach, lies}
 use Rattle.format.specs.Limits.{rowLimit}
 use Rattle.format.specs.Text.{Bytes, byteAt}
 use Rattle.format.specs.Document.{member}
-use Rattle.calls.specs.Layout.{memberLimit, storeSize, setsSize, rowsSize}
+use Rattle.calls.specs.Layout.{memberLimit, storeSize, setsSize, rowsSize, commsStart}
 use Rattle.store.specs.Rows.{storeProgram}
 use Rattle.store.proofs.Laws.{program-length}
 use Rattle.tables.specs.Tables.{flagAt, flowFlag, commFlag, storeFlow, storeComm}
@@ -89,9 +89,9 @@ pub flow-part : (s : Bytes) (n : ℕ) → storeSize ≤ length s → setOf (part
 unfolding storeFlow flowFlag
 flow-part s n h = set-part s rowsSize n (omega arith)
 
-pub comm-part : (s : Bytes) (n : ℕ) → storeSize ≤ length s → setOf (partAt s (rowsSize + setsSize) n) ≡ storeComm s n
+pub comm-part : (s : Bytes) (n : ℕ) → storeSize ≤ length s → setOf (partAt s commsStart n) ≡ storeComm s n
 unfolding storeComm commFlag
-comm-part s n h = set-part s (rowsSize + setsSize) n (omega arith)
+comm-part s n h = set-part s commsStart n (omega arith)
 
 -- ---- a set within another, of the program's members
 

@@ -1,5 +1,5 @@
 -- `write` meets its contract: 20 to 22 of the store, then 23, then the text.
-use Rattle.entry.proofs.Opening.{opens-long}
+use Rattle.opening.proofs.Opening.{opens-long}
 use Rattle.checker.proofs.Texts.{refused-store, no-room, whole-text}
 use borrow.Author.Needs.{needs}
 use Rattle.checker.proofs.write.Statement.{statement}

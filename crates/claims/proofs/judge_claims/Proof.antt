@@ -3,10 +3,10 @@ use Prim.Native.Nat.{_+_, _-_, _≤_}
 use native.Mathlib.Omega.{arith}
 use mathlib.Core.Path.{_≡_, sym, _∙_}
 use Rattle.format.specs.Limits.{rowLimit}
-use Rattle.calls.specs.Layout.{rowsSize, setsSize}
+use Rattle.calls.specs.Layout.{claimsStart}
 use Rattle.store.specs.Rows.{storeProgram}
 use Rattle.tables.specs.Tables.{storeFlow}
-use Rattle.structure.proofs.Checking.{claimsOn}
+use Rattle.store.proofs.Claims.{claimsOn}
 use Rattle.claims.specs.Claims.{claimIn, storeClaims, claimsJudged}
 use Rattle.claims.proofs.Claiming.{judged-start, judged-none, judged-holds, judged-fails, judged-end}
 use borrow.Author.Needs.{needs}
@@ -16,13 +16,13 @@ use Rattle.claims.proofs.judge_claims.Tie as tie
 abbrev Inv-loop : tie.InvT-loop
 Inv-loop store rows grid line held₀ c₀ held c =
     let ok = claimIn (storeProgram rows store) (storeFlow store) in
-    (c ≤ rowLimit) × (held ≤ c) × (claimsJudged ok line held (claimsOn store (rowsSize + setsSize + setsSize) c) ≡ claimsJudged ok line 0 (storeClaims store))
+    (c ≤ rowLimit) × (held ≤ c) × (claimsJudged ok line held (claimsOn store claimsStart c) ≡ claimsJudged ok line 0 (storeClaims store))
 
 abbrev μ-loop : tie.MeasureT-loop
 μ-loop store rows grid line held₀ c₀ held c = rowLimit - c
 
 loop-holds : tie.Need-loop-holds Inv-loop μ-loop
-loop-holds c = (omega arith, omega arith, judged-start _ (c .before .before .args .store .now) (rowsSize + setsSize + setsSize) _ _)
+loop-holds c = (omega arith, omega arith, judged-start _ (c .before .before .args .store .now) claimsStart _ _)
 
 add-byte-at : tie.Need-add-byte-at Inv-loop μ-loop
 add-byte-at c = search needs
