@@ -4,7 +4,6 @@ use text::NumberRead;
 ghost use mathlib.Core.Bool.{So};
 ghost use mathlib.Core.Path.{_≡_};
 ghost use Rattle.format.specs.Text.{oneOf};
-ghost use Rattle.format.specs.Forms.{arity};
 ghost use Rattle.format.specs.Read.{formWords, readForm};
 ghost use Rattle.text.specs.Reads.{noZero};
 ghost use Rattle.read_forms.specs.Reads.{kindRead, thenWord, numbersRead, readNumbers, FormIs};
@@ -48,28 +47,6 @@ fn read_kind(s: &[u8], at: usize) -> KindRead
     let second = or_word(first, s, at, b"[second", 13);
     let case = or_word(second, s, at, b"[case", 14);
     or_word(case, s, at, b"[apply", 15)
-}
-
-// How many numbers the form of a code holds.
-pub fn arity(kind: u8) -> usize
-    ensures { λ r. ⌜ r ≡ arity kind ⌝ }
-{
-    match kind {
-        2 => 0,
-        3 => 0,
-        4 => 2,
-        5 => 1,
-        6 => 2,
-        7 => 1,
-        8 => 1,
-        9 => 3,
-        10 => 1,
-        11 => 1,
-        12 => 1,
-        13 => 1,
-        14 => 5,
-        _ => 2,
-    }
 }
 
 // The numbers of a form; those that it does not hold are 0.
@@ -131,7 +108,7 @@ pub fn read_form(s: &[u8], at: usize) -> FormRead
     let KindRead::Found(kind, p) = read_kind(s, at) else {
         return FormRead::Missing;
     };
-    let count = arity(kind);
+    let count = store::arity(kind);
     let NumbersRead::Found(numbers, q) = read_numbers(s, p, count) else {
         return FormRead::Missing;
     };

@@ -112,7 +112,7 @@ pub fn row_above(raw: RawRow) -> bool
     if Store::ROWS <= raw.rest as usize {
         return true;
     }
-    let count = read_forms::arity(kind);
+    let count = store::arity(kind);
     let numbers = [raw.a, raw.b, raw.c, raw.d, raw.e];
     numbers_above(&numbers, count)
 }
