@@ -23,7 +23,8 @@ use Rattle.program.specs.Flow.{Abstract, u, row, Table, forEach, forEach
 use Rattle.program.specs.Walk.{enters, someCalled, toRest, toChild, toCalled, toCaller, edge, sendPlace, receivePlace}
 use Rattle.program.specs.Closure.{cell, table, join, through, closure, grid, closed}
 use Rattle.program.specs.Verdict.{reach, says, reached, leads, inARow, rivals, ends, facts, verdict}
-use Rattle.program.specs.Run.{Path, next, spawn, call, sameLabel, Instance, made, State, Pool, lookup, closureOf, channelOf, closureAt, proceed, enter, start, formMoves, resultMoves, moves, event, sendsOn, message, offer, receivesOn}
+use Rattle.program.specs.Run.{Path, next, spawn, call, sameLabel, Instance, made, State, Pool, lookup, closureOf, channelOf, closureAt, proceed, enter, start, formMoves, resultMoves}
+use Rattle.program.specs.Run.{moves, event, sendsOn, message, offer, receivesOn}
 use Rattle.program.specs.Run.{stateOf, leaf, leafState, lengthen, Step, own, meet, added, step, after, startPool, run}
 use Rattle.program.specs.Topology.{Fits}
 use Rattle.program.specs.History.{AtSend, AtReceive, HistoryFits}

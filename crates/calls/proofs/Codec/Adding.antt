@@ -19,7 +19,8 @@ use Rattle.format.specs.Limits.{rowLimit}
 use Rattle.format.specs.Text.{Bytes}
 use Rattle.format.specs.Document.{Entry, Claim, Document, Line, row, flow, comm, claim, membersAt}
 use Rattle.format.specs.Read.{add, noLines}
-use Rattle.calls.specs.Layout.{rowSize, rowsSize, setsSize, commsStart, claimsStart, memberLimit, storeSize, flowAt, commAt, claimAt, counting, padded, rowBytes, flagsOf, setsBytes, wordCode, claimCode, encode}
+use Rattle.calls.specs.Layout.{rowSize, rowsSize, setsSize, commsStart, claimsStart, memberLimit, storeSize, flowAt, commAt, claimAt, counting, padded, rowBytes, flagsOf, setsBytes}
+use Rattle.calls.specs.Layout.{wordCode, claimCode, encode}
 use Rattle.calls.proofs.Codec.Sparse.{counting-length}
 use Rattle.calls.proofs.Codec.Rows.{rows-length, row-size, rows-part-length}
 use Rattle.calls.proofs.Codec.Sets.{flags-length, sets-bytes-length}

@@ -1,3 +1,4 @@
+-- `load` meets its contract: 20 where the store is too short, else what loading the file gives.
 use borrow.Author.Needs.{needs}
 use Rattle.load_file.proofs.Files.{too-short, long-enough}
 use Rattle.checker.proofs.load.Statement.{statement}
@@ -6,19 +7,15 @@ use Rattle.checker.proofs.load.Reads as reads
 use Rattle.checker.proofs.load.Lts as lts
 use Rattle.load_file.proofs.load_file.Reads as load-file-reads
 
--- src/lib.rt:72:9
 returns : tie.Need-returns
 returns c = too-short _ _ (c .if1 .taken)
 
--- src/lib.rt:77:5
 load-file-requires : tie.Need-load-file-requires
 load-file-requires c κs = search needs
 
--- src/lib.rt:68:1
 same-length : tie.Need-same-length
 same-length c = search needs
 
--- src/lib.rt:68:1
 returns-2 : tie.Need-returns-2
 returns-2 c = long-enough _ _ (c .before .before .before .before .if1 .left) (c .before .before .load-file .ensures)
 
