@@ -122,7 +122,7 @@ pub fn canonical(store: &[u8], rows: u8) -> bool
         let rest = rows as usize * Store::ROW_SIZE;
         if all_below(&store[rest..Store::FLOWS], 1) {
             if all_below(&store[Store::FLOWS..Store::CLAIMS], 2) {
-                return all_below(&store[Store::CLAIMS..], 6);
+                return all_below(&store[Store::CLAIMS..], Store::CODES);
             }
         }
     }

@@ -40,6 +40,8 @@ impl Store {
     pub const CLAIMS: usize = Self::COMMS + Self::ROWS * Self::MEMBERS;
 
     pub const SIZE: usize = Self::CLAIMS + Self::ROWS;
+    // The codes of claim words are below this.
+    pub const CODES: u8 = 6;
 
     pub fn empty() -> Store
         ensures { λ s. ⌜ s .bytes ≡ replicate storeSize 0 ⌝ }
