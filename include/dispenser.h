@@ -4,7 +4,7 @@
  *
  * A byte slice is a pointer, never NULL, and the count of bytes there. No one
  * else may write a slice's bytes during a call, and a slice that a call writes
- * must not overlap its other slice.
+ * must not overlap its other slices.
  *
  * Every call returns one number. Its low 8 bits are 0 where the call is
  * accepted, else they are the number of the refusal. Above them:
@@ -14,6 +14,7 @@
  *   verdict accepted  one-shot, one-to-one, fan-out and fan-in, a bit each,
  *                     lowest first, 1 for yes
  *   write accepted    the bytes written
+ *   report accepted   the bytes written
  */
 #ifndef DISPENSER_H
 #define DISPENSER_H
@@ -42,6 +43,17 @@ uint64_t dispenser_verdict(const uint8_t *store, size_t store_length,
 /* Writes a store as text. Refusals 20 to 23; the rest of out is unaltered. */
 uint64_t dispenser_write(const uint8_t *store, size_t store_length,
                          uint8_t *out, size_t out_length);
+
+/* The bytes that the output of a report must have. */
+uint64_t dispenser_report_size(void);
+
+/* Writes what the program prints of a file: the count of its claims and each
+ * channel's verdict, or its refusal, which is a report too. Loads the file into
+ * the store on the way. Refusals 20 and 23, which alter nothing; the rest of out
+ * is unaltered. */
+uint64_t dispenser_report(const uint8_t *file, size_t file_length,
+                          uint8_t *store, size_t store_length,
+                          uint8_t *out, size_t out_length);
 
 #ifdef __cplusplus
 }

@@ -6,4 +6,5 @@ pub mod Calls
 pub mod Exact
 pub mod Numbers
 pub mod Bounds
+pub mod Report
 pub mod Demands

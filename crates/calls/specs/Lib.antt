@@ -3,5 +3,6 @@ pub mod Layout
 pub mod Answers
 pub mod Judging
 pub mod Calls
+pub mod Report
 pub mod Exact
 pub mod Canonical

@@ -1,25 +1,30 @@
 -- Every answer of the calls is packed without loss: lines and texts are short, counts are bytes, words are bits.
 use Prim.Native.Nat.{ℕ, _+_, _*_, _^_, _≤_, _<_}
 use native.Mathlib.Omega.{arith}
-use mathlib.Core.List.{List, [], _∷_}
+use mathlib.Core.Bool.{Bool, true, false}
+use mathlib.Core.List.{List, [], _∷_, _++_}
 use mathlib.Core.Path.{_≡_, refl}
-use lib.ListN.{length, take, length-take}
+use lib.ListN.{length, take, drop, length-take}
 use lib.Dec.{ltb}
 use Rattle.program.specs.Each.{Each, nil, _&_}
 use Rattle.format.specs.Limits.{rowLimit}
 use Rattle.format.specs.Text.{Bytes}
-use Rattle.format.specs.Refusals.{Result, refused, accepted}
+use Rattle.format.specs.declared.Reason.the-variants.{StoreTooShort, OutputTooShort}
+use Rattle.format.specs.Refusals.{refusal, Result, refused, accepted}
 use Rattle.format.specs.Document.{Document}
 use Rattle.format.specs.Print.{documentText}
+use Rattle.calls.specs.declared.WriteAnswer.{WriteAnswer}
 use Rattle.calls.specs.Answers.{Answer, turnedBack, answered, refusalAnswer, loadAnswer, judgeAnswer, verdictAnswer, writeAnswer}
 use Rattle.calls.specs.Layout.{storeSize, decode}
 use Rattle.calls.specs.Canonical.{countRows}
 use Rattle.calls.specs.Calls.{opened, andThen, load, judge, verdict, written, write}
+use Rattle.calls.specs.Report.{report, reportLimit, Reporting, reported}
 use Rattle.calls.proofs.Canonical.Rows.{count-rows-le}
 use Rattle.calls.proofs.Codec.Sparse.{either}
 use Rattle.calls.proofs.Bounds.{Within, line-within, values-within, OpensTo, not-opened, decoded, opens-to, load-within, judge-within, verdict-within, four-words}
 use Rattle.store.specs.Document.{storeDocument}
 use Rattle.store.proofs.Document.{document-is}
+use Rattle.calls.proofs.Report.{report-short}
 use Rattle.writing.proofs.Bounds.{stored-bound}
 use Rattle.packing.specs.Packing.{packed, countBits, wordBits, numberBits, Short, Lossless}
 use Rattle.packing.proofs.Unpacking.{unpacked, load-back, judge-back, verdict-back, write-back}
@@ -58,7 +63,24 @@ write-within store out = go (opened store) (opens-to store)
         either (ltb (length out) (length (documentText d))) (λ t. rw (t, written) (line-within {l = 0} (omega arith)))
         (λ t. rw (t, written) (values-within (rw (← e) at low & nil)))
 
--- ---- the four calls: each answer is packed without loss, so that what a caller reads in the number is the answer
+-- ---- report
+
+report-within : (file store out : Bytes) → Within 0 reportLimit (writeAnswer (reported file store out .answer))
+unfolding reported writeAnswer refusalAnswer
+report-within file store out = go (ltb (length store) storeSize) (ltb (length out) reportLimit)
+  where
+    go : (a b : Bool) → Within 0 reportLimit (writeAnswer (elim a as (λ a. Reporting) [
+      | true ↦ record { answer = WriteAnswer.Refused (refusal StoreTooShort 0); store = store; out = out }
+      | false ↦ elim b [
+        | true ↦ record { answer = WriteAnswer.Refused (refusal OutputTooShort 0); store = store; out = out }
+        | false ↦ record { answer = WriteAnswer.Written (length (report file)); store = load file store .bytes; out = report file ++ drop (length (report file)) out }
+      ]
+    ] .answer))
+    go true b = line-within {l = 0} (omega arith)
+    go false true = line-within {l = 0} (omega arith)
+    go false false = values-within (report-short file & nil)
+
+-- ---- the five calls: each answer is packed without loss, so that what a caller reads in the number is the answer
 
 pub load-lossless : (file store : Bytes) → Lossless countBits (loadAnswer (load file store .answer))
 load-lossless file store = lossless _ _ countBits (omega arith) (omega arith) _ (load-within file store)
@@ -83,3 +105,9 @@ write-lossless store out = lossless 0 textLimit numberBits (omega arith) (omega 
 
 pub write-read : (store out : Bytes) → let a = writeAnswer (write store out .answer) in unpacked numberBits 1 (packed numberBits a) ≡ a
 write-read store out = write-back (write store out .answer) (write-lossless store out)
+
+pub report-lossless : (file store out : Bytes) → Lossless numberBits (writeAnswer (reported file store out .answer))
+report-lossless file store out = lossless 0 reportLimit numberBits (omega arith) (omega arith) _ (report-within file store out)
+
+pub report-read : (file store out : Bytes) → let a = writeAnswer (reported file store out .answer) in unpacked numberBits 1 (packed numberBits a) ≡ a
+report-read file store out = write-back (reported file store out .answer) (report-lossless file store out)

@@ -3,6 +3,7 @@ use store::Store;
 ghost use mathlib.Core.Path.{_≡_};
 ghost use Rattle.calls.specs.Layout.{storeSize};
 ghost use Rattle.calls.specs.Calls.{load, judge, verdict, write};
+ghost use Rattle.calls.specs.Report.{reportLimit, reported};
 ghost use Rattle.calls.specs.Answers.{loadAnswer, judgeAnswer, verdictAnswer, writeAnswer};
 ghost use Rattle.packing.specs.Packing.{packed, countBits, wordBits, numberBits};
 
@@ -51,5 +52,24 @@ pub extern "C" fn dispenser_write(store: &[u8], out: &mut [u8]) -> u64
     ensures { λ _. ⌜ now (out .exit) ≡ write (now (store .entry)) (now (out .entry)) .bytes ⌝ }
 {
     let answer = checker::write(store, out);
+    packing::pack_write(answer)
+}
+
+// The bytes that the output of a report must have.
+#[no_mangle]
+pub extern "C" fn dispenser_report_size() -> u64
+    ensures { λ n. ⌜ n ≡ reportLimit ⌝ }
+{
+    reporting::REPORT_BYTES as u64
+}
+
+// Writes the report of a file into the lent output, and loads the file into the lent store: the bytes written.
+#[no_mangle]
+pub extern "C" fn dispenser_report(file: &[u8], store: &mut [u8], out: &mut [u8]) -> u64
+    ensures { λ n. ⌜ n ≡ packed numberBits (writeAnswer (reported (now (file .entry)) (now (store .entry)) (now (out .entry)) .answer)) ⌝ }
+    ensures { λ _. ⌜ now (store .exit) ≡ reported (now (file .entry)) (now (store .entry)) (now (out .entry)) .store ⌝ }
+    ensures { λ _. ⌜ now (out .exit) ≡ reported (now (file .entry)) (now (store .entry)) (now (out .entry)) .out ⌝ }
+{
+    let answer = reporting::report(file, store, out);
     packing::pack_write(answer)
 }

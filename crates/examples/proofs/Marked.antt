@@ -29,6 +29,7 @@ use Rattle.calls.specs.Answers
 use Rattle.calls.specs.Answers.{Answer, turnedBack, answered}
 use Rattle.calls.specs.Judging
 use Rattle.calls.specs.Calls
+use Rattle.calls.specs.Report
 
 -- lines, each ended by byte 10
 file : List String → Text.Bytes
@@ -208,3 +209,15 @@ calls : onA 370 ≡ record {
 }
 unfolding onA
 calls = refl
+
+-- what the program prints of a file
+printed : Text.Bytes → Text.Bytes
+unfolding tried variant Report.report Report.checkedText Report.judgedText Report.channelLines Report.channelLine Report.channelText Report.wordsText Report.moreWordsText
+    Report.yesNoText Report.acceptedText Report.refusedText Text.digits Text.place Text.argument
+printed text = Report.report text
+
+-- of A, as document 01 lists it, and of A without flow 4
+listings : map printed (file linesA ∷ variant 15 [] ∷ [])
+    ≡ (file ("[accepted 1]" ∷ "[channel 1 [yes yes yes yes]]" ∷ []) ∷ file ("[refused 10 6]" ∷ []) ∷ [])
+unfolding printed
+listings = refl

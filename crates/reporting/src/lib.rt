@@ -1,99 +1,119 @@
-// What the programs print of a file: the count of its claims and each channel's verdict, or its refusal.
+// What the program prints of a file, written into lent bytes: the count of its claims and each channel's verdict, or its refusal.
 use calls::JudgeAnswer;
 use calls::LoadAnswer;
+use calls::WriteAnswer;
+use format::Reason;
 use format::Refusal;
 use grids::GRID;
 use opening::Opened;
+use report_lines::put_accepted;
+use report_lines::put_channel;
+use report_lines::put_refused;
 use store::Store;
 ghost use Prim.Native.Nat.{_≤_};
 ghost use lib.ListN.{length};
 ghost use mathlib.Core.Path.{_≡_};
 ghost use Rattle.program.specs.Verdict.{reach};
 ghost use Rattle.format.specs.Limits.{rowLimit};
-ghost use Rattle.calls.specs.Layout.{storeSize};
+ghost use Rattle.calls.specs.Layout.{storeSize, decode};
+ghost use Rattle.calls.specs.Canonical.{countRows};
+ghost use Rattle.calls.specs.Calls.{opened};
+ghost use Rattle.calls.specs.Report.{channelLine, channelLines, checkedText, report, reportLimit, LeavesReport, reported};
+ghost use Rattle.text.specs.Write.{Room, Wrote};
 ghost use Rattle.store.specs.Rows.{storeProgram};
 ghost use Rattle.tables.specs.Tables.{storeFlow};
 ghost use Rattle.grids.specs.Grid.{gridSize, Shows};
+ghost use Rattle.reporting.specs.Reports.{FileReported};
 
-// Prints a number behind a space.
-pub fn print_number(n: usize) {
-    io::write_all(1, b" ");
-    io::print_decimal(1, n as u64);
-}
+// No report is longer: 32 bytes for each row's line and for a first line.
+pub const REPORT_BYTES: usize = 32 * (Store::ROWS + 1);
 
-// `[refused NUMBER LINE]`
-pub fn print_refusal(refusal: Refusal) {
-    let line = refusal.line;
-    let reason = refusal.reason;
-    let number = packing::number(reason);
-    io::write_all(1, b"[refused");
-    print_number(number as usize);
-    print_number(line);
-    io::write_all(1, b"]\n");
-}
-
-fn print_word(word: bool) {
-    if word {
-        io::write_all(1, b"yes");
-    } else {
-        io::write_all(1, b"no");
-    }
-}
-
-// `[channel R [yes no ..]]`
-fn print_channel(c: u8, words: [bool; 4]) {
-    io::write_all(1, b"[channel");
-    print_number(c as usize);
-    io::write_all(1, b" [");
-    print_word(words[0]);
-    io::write_all(1, b" ");
-    print_word(words[1]);
-    io::write_all(1, b" ");
-    print_word(words[2]);
-    io::write_all(1, b" ");
-    print_word(words[3]);
-    io::write_all(1, b"]]\n");
-}
-
-// The verdict of each chan row, rows rising, told by one grid of which rows reach which.
-fn print_channels(store: &[u8], rows: u8, grid: &[u8])
-    requires { ⌜ (storeSize ≤ length (now store)) × (rows ≤ rowLimit) × (gridSize ≤ length (now grid)) ⌝ }
-    requires { ⌜ Shows (reach (storeProgram rows (now store)) (storeFlow (now store))) (now grid) ⌝ }
+// The same number.
+pub fn report_limit() -> usize
+    ensures { λ n. ⌜ n ≡ reportLimit ⌝ }
 {
-    let mut c = 0;
-    while c < rows {
-        if forms::is_chan(store, rows, c) {
-            print_channel(c, verdicts::words(store, rows, grid, c));
-        }
-        c += 1;
-    }
+    REPORT_BYTES
 }
 
-// Judges a loaded store and prints `[accepted N]` and the channels, or the refusal.
-fn print_judged(store: &[u8]) {
+// Writes the line of a chan row, told by a grid of which rows reach which; nothing of another row.
+fn put_row(out: &mut [u8], at: usize, store: &[u8], rows: u8, grid: &[u8], row: u8) -> usize
+    requires { ⌜ (storeSize ≤ length (now store)) × (rows ≡ countRows rowLimit (now store)) × (gridSize ≤ length (now grid)) ⌝ }
+    requires { ⌜ Shows (reach (storeProgram rows (now store)) (storeFlow (now store))) (now grid) ⌝ }
+    requires { ⌜ Room at (channelLine (decode (now store)) row) ⌝ }
+    ensures { λ r. ⌜ Wrote (now (out .entry)) at (channelLine (decode (now (store .entry))) row) r (now (out .exit)) ⌝ }
+{
+    if forms::is_chan(store, rows, row) {
+        let words = verdicts::words(store, rows, grid, row);
+        let number = row as u16;
+        return put_channel(out, at, number, words[0], words[1], words[2], words[3]);
+    }
+    at
+}
+
+// Writes the lines of the chan rows, rows rising.
+fn put_channels(out: &mut [u8], at: usize, store: &[u8], rows: u8, grid: &[u8]) -> usize
+    requires { ⌜ (storeSize ≤ length (now store)) × (rows ≡ countRows rowLimit (now store)) × (gridSize ≤ length (now grid)) ⌝ }
+    requires { ⌜ Shows (reach (storeProgram rows (now store)) (storeFlow (now store))) (now grid) ⌝ }
+    requires { ⌜ Room at (channelLines (decode (now store))) ⌝ }
+    ensures { λ r. ⌜ Wrote (now (out .entry)) at (channelLines (decode (now (store .entry)))) r (now (out .exit)) ⌝ }
+{
+    let mut next = at;
+    let mut row = 0;
+    while row < rows {
+        next = put_row(out, next, store, rows, grid, row);
+        row += 1;
+    }
+    next
+}
+
+// Writes the report of a store: why it does not open, or what judging it gives.
+fn put_store(out: &mut [u8], store: &[u8]) -> usize
+    ensures { λ r. ⌜ Wrote (now (out .entry)) 0 (checkedText (opened (now (store .entry)))) r (now (out .exit)) ⌝ }
+{
     match opening::open(store) {
-        Opened::Refused(refusal) => print_refusal(refusal),
+        Opened::Refused(refusal) => put_refused(out, 0, refusal),
         Opened::Rows(rows) => {
             let fixed = &store[..Store::SIZE];
             let mut grid = [0u8; GRID];
             match judging::judge_store(fixed, rows, &mut grid) {
-                JudgeAnswer::Refused(refusal) => print_refusal(refusal),
+                JudgeAnswer::Refused(refusal) => put_refused(out, 0, refusal),
                 JudgeAnswer::Accepted(claims) => {
-                    io::write_all(1, b"[accepted");
-                    print_number(claims);
-                    io::write_all(1, b"]\n");
-                    print_channels(fixed, rows, &grid);
+                    let count = claims as u16;
+                    let next = put_accepted(out, 0, count);
+                    put_channels(out, next, fixed, rows, &grid)
                 }
             }
         }
     }
 }
 
-// Loads and judges a file and prints what it is.
-pub fn print_report(file: &[u8]) {
-    let mut store = [0u8; Store::SIZE];
-    match checker::load(file, &mut store) {
-        LoadAnswer::Refused(refusal) => print_refusal(refusal),
-        LoadAnswer::Loaded(_) => print_judged(&store),
+// Writes the report of a file, which is loaded into the store.
+fn put_file(file: &[u8], store: &mut [u8], out: &mut [u8]) -> usize
+    requires { ⌜ storeSize ≤ length (now store) ⌝ }
+    ensures { λ r. ⌜ FileReported (now (file .entry)) (now (store .entry)) (now (out .entry)) r (now (store .exit)) (now (out .exit)) ⌝ }
+{
+    match checker::load(file, store) {
+        LoadAnswer::Refused(refusal) => put_refused(out, 0, refusal),
+        LoadAnswer::Loaded(_) => put_store(out, store),
     }
+}
+
+// Writes the report of a file into the lent output, and loads the file into the lent store: the report's length, or refusals 20 and 23.
+pub fn report(file: &[u8], store: &mut [u8], out: &mut [u8]) -> WriteAnswer
+    ensures { λ a. ⌜ LeavesReport (reported (now (file .entry)) (now (store .entry)) (now (out .entry))) a (now (store .exit)) (now (out .exit)) ⌝ }
+{
+    if store.len() < Store::SIZE {
+        return WriteAnswer::Refused(Refusal {
+            reason: Reason::StoreTooShort,
+            line: 0,
+        });
+    }
+    if out.len() < REPORT_BYTES {
+        return WriteAnswer::Refused(Refusal {
+            reason: Reason::OutputTooShort,
+            line: 0,
+        });
+    }
+    let length = put_file(file, store, out);
+    WriteAnswer::Written(length)
 }

@@ -4,10 +4,26 @@ use calls::LoadAnswer;
 use calls::VerdictAnswer;
 use calls::VerdictStatus;
 use calls::WriteAnswer;
-use reporting::print_number;
-use reporting::print_refusal;
-use reporting::print_report;
+use format::Refusal;
+use reporting::REPORT_BYTES;
 use store::Store;
+
+// Prints a number behind a space.
+fn print_number(n: usize) {
+    io::write_all(1, b" ");
+    io::print_decimal(1, n as u64);
+}
+
+// A refusal, as a report has it.
+fn print_refusal(refusal: Refusal) {
+    let line = refusal.line;
+    let reason = refusal.reason;
+    let number = packing::number(reason);
+    io::write_all(1, b"[refused");
+    print_number(number as usize);
+    print_number(line);
+    io::write_all(1, b"]\n");
+}
 
 fn print_loaded(answer: LoadAnswer) {
     match answer {
@@ -49,7 +65,7 @@ fn print_judged(answer: JudgeAnswer) {
     }
 }
 
-// Whether a verdict is given; its words are in what print_report prints.
+// Whether a verdict is given; its words are in the report.
 fn print_verdict(answer: VerdictAnswer) {
     let status = answer.status;
     match status {
@@ -66,10 +82,25 @@ fn print_name(name: &[u8]) {
     io::write_all(1, b":\n");
 }
 
+// The bytes of a report.
+fn print_report(answer: WriteAnswer, out: &[u8]) {
+    match answer {
+        WriteAnswer::Written(n) => {
+            if n <= out.len() {
+                io::write_all(1, &out[..n]);
+            }
+        }
+        WriteAnswer::Refused(refusal) => print_refusal(refusal),
+    }
+}
+
 // What the dispenser program prints of a file.
 fn try_report(name: &[u8], file: &[u8]) {
+    let mut store = [7; Store::SIZE];
+    let mut out = [0; REPORT_BYTES];
     print_name(name);
-    print_report(file);
+    let answer = reporting::report(file, &mut store, &mut out);
+    print_report(answer, &out);
 }
 
 // Loads a file into a store that was used before, and writes the store.
