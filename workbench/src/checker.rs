@@ -204,6 +204,17 @@ impl Store {
         Ok([0, 1, 2, 3].map(|bit| value >> bit & 1 == 1))
     }
 
+    /// The bytes that the output of a report must have.
+    pub fn report_size() -> usize {
+        ffi::report_size() as usize
+    }
+
+    /// Loads and judges a file and writes its report, which a refused file has
+    /// too; answers how many bytes it has.
+    pub fn report(&mut self, file: &[u8], out: &mut [u8]) -> Result<usize, Refusal> {
+        decode(ffi::report(file, &mut self.bytes, out))
+    }
+
     /// Writes the store as text and answers how many bytes it has.
     pub fn write(&self, out: &mut [u8]) -> Result<usize, Refusal> {
         decode(ffi::write(&self.bytes, out))

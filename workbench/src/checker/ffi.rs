@@ -19,9 +19,18 @@ extern "C" {
         out: *mut c_uchar,
         out_len: usize,
     ) -> u64;
+    fn dispenser_report_size() -> u64;
+    fn dispenser_report(
+        file: *const c_uchar,
+        file_len: usize,
+        store: *mut c_uchar,
+        store_len: usize,
+        out: *mut c_uchar,
+        out_len: usize,
+    ) -> u64;
 }
 
-// SAFETY, of all five: pointer and length come from one slice, which stays
+// SAFETY, of all seven: pointer and length come from one slice, which stays
 // borrowed for the call, mutably where the function writes; the functions touch
 // no other memory and keep no pointer (promise 1).
 
@@ -48,4 +57,23 @@ pub fn verdict(store: &[u8], channel: usize) -> u64 {
 /// Writes the text of a store.
 pub fn write(store: &[u8], out: &mut [u8]) -> u64 {
     unsafe { dispenser_write(store.as_ptr(), store.len(), out.as_mut_ptr(), out.len()) }
+}
+
+/// The bytes that the output of a report must have.
+pub fn report_size() -> u64 {
+    unsafe { dispenser_report_size() }
+}
+
+/// Loads and judges a file and writes its report.
+pub fn report(file: &[u8], store: &mut [u8], out: &mut [u8]) -> u64 {
+    unsafe {
+        dispenser_report(
+            file.as_ptr(),
+            file.len(),
+            store.as_mut_ptr(),
+            store.len(),
+            out.as_mut_ptr(),
+            out.len(),
+        )
+    }
 }

@@ -67,7 +67,8 @@ returns c =
     let at-put-argument = at-put-argument2 .before .before .before .before in
     let at-put-word = at-put-argument .before .before .before .before in
     let at-number = at-put-word .before .before .before in
-    then (at-put-word .put-word .ensures) (then (same-argument (at-number .number .ensures) (at-put-argument .put-argument .ensures)) (then (at-put-argument2 .put-argument2 .ensures) (at-put-word2 .put-word2 .ensures)))
+    then (at-put-word .put-word .ensures) (then (same-argument (at-number .number .ensures) (at-put-argument .put-argument .ensures))
+    (then (at-put-argument2 .put-argument2 .ensures) (at-put-word2 .put-word2 .ensures)))
 
 pub put-refused-spec : {M : Type 1} → statement M
 put-refused-spec =

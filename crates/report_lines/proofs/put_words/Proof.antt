@@ -44,7 +44,8 @@ put-byte-requires c κs =
     let at-put-yes-no2 = at-put-yes-no3 .before .before .before .before in
     let at-put-yes-no = at-put-yes-no2 .before .before .before .before in
     let start = at-put-yes-no .before .before .before in
-    room-then _ (at-put-yes-no4 .put-yes-no4 .ensures) (room-then _ (at-put-yes-no3 .put-yes-no3 .ensures) (room-then _ (at-put-yes-no2 .put-yes-no2 .ensures) (room-then _ (at-put-yes-no .put-yes-no .ensures) (start .pre))))
+    room-then _ (at-put-yes-no4 .put-yes-no4 .ensures) (room-then _ (at-put-yes-no3 .put-yes-no3 .ensures)
+    (room-then _ (at-put-yes-no2 .put-yes-no2 .ensures) (room-then _ (at-put-yes-no .put-yes-no .ensures) (start .pre))))
 
 same-length : tie.Need-same-length
 same-length c = search needs
@@ -57,7 +58,8 @@ returns c =
     let at-put-yes-no3 = at-put-yes-no4 .before .before .before .before in
     let at-put-yes-no2 = at-put-yes-no3 .before .before .before .before in
     let at-put-yes-no = at-put-yes-no2 .before .before .before .before in
-    then (at-put-yes-no .put-yes-no .ensures) (then (at-put-yes-no2 .put-yes-no2 .ensures) (then (at-put-yes-no3 .put-yes-no3 .ensures) (then (at-put-yes-no4 .put-yes-no4 .ensures) (at-put-byte .put-byte .ensures))))
+    then (at-put-yes-no .put-yes-no .ensures) (then (at-put-yes-no2 .put-yes-no2 .ensures)
+    (then (at-put-yes-no3 .put-yes-no3 .ensures) (then (at-put-yes-no4 .put-yes-no4 .ensures) (at-put-byte .put-byte .ensures))))
 
 pub put-words-spec : {M : Type 1} → statement M
 put-words-spec =
