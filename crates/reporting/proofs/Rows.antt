@@ -12,13 +12,12 @@ use Rattle.format.specs.Limits.{rowLimit}
 use Rattle.format.specs.Text.{Bytes}
 use Rattle.calls.specs.Layout.{counting, decode}
 use Rattle.calls.specs.Canonical.{countRows}
-use Rattle.calls.specs.Judging.{verdictWords, flowTable, wordHolds, reaches}
+use Rattle.calls.specs.Judging.{verdictWords, wordHolds, reaches}
 use Rattle.calls.specs.Report.{channelText, channelLine, channelLines}
-use Rattle.calls.proofs.Canonical.{rows-decoded}
-use Rattle.store.specs.Rows.{storeRow, storeProgram}
+use Rattle.store.specs.Rows.{storeProgram}
 use Rattle.store.proofs.Laws.{program-length}
+use Rattle.store.proofs.Document.{rows-decode, flow-is}
 use Rattle.tables.specs.Tables.{storeFlow}
-use Rattle.tables.proofs.Tables.{flow-table}
 use Rattle.verdicts.specs.Words.{wordIn}
 
 -- of n rows, those from c on
@@ -36,19 +35,14 @@ module _ (f : ℕ → Bytes) (n c : ℕ) where
 
 module _ (n : ℕ) (s : Bytes) (rows : n ≡ countRows rowLimit s) where
   rows-are : decode s .rows ≡ storeProgram n s
-  unfolding storeProgram storeRow
-  rows-are = rw (rows, ← rows-decoded s) refl
-
-  flow-is : flowTable (decode s) ≡ storeFlow s
-  unfolding flowTable decode
-  flow-is = flow-table s
+  rows-are = rows-decode s n rows
 
   pub row-count : length (decode s .rows) ≡ n
   row-count = rw rows-are (program-length n s)
 
   pub channel-line : (c : ℕ) → chanRow (storeProgram n s) c ≡ true → channelLine (decode s) c ≡ channelText c (map (wordIn (storeProgram n s) (storeFlow s) c) verdictWords)
   unfolding channelLine wordHolds reaches wordIn
-  channel-line c e = rw (flow-is, rows-are, e)
+  channel-line c e = rw (flow-is s, rows-are, e)
 
   pub no-line : (c : ℕ) → chanRow (storeProgram n s) c ≡ false → channelLine (decode s) c ≡ []
   unfolding channelLine
