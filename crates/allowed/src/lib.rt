@@ -157,7 +157,7 @@ fn line_code(store: &[u8], base: usize, n: usize, keys: &[u8], members: &[u8]) -
     if code != 1 {
         return code;
     }
-    if text::byte_at(keys, n) == 0 {
+    if read_text::byte_at(keys, n) == 0 {
         return 2;
     }
     1
@@ -201,8 +201,8 @@ fn check_claims(store: &[u8], line: usize, keys: &[u8]) -> Lines
     let mut c = 0;
     while c < Store::ROWS {
         let p = Store::CLAIMS + c;
-        let word = text::byte_at(store, p);
-        let allowed = text::byte_at(keys, c);
+        let word = read_text::byte_at(store, p);
+        let allowed = read_text::byte_at(keys, c);
         c += 1;
         if word == 0 {
             continue;

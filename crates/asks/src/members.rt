@@ -12,7 +12,7 @@ pub fn has_row(set: &[u8], r: u8) -> bool
         return false;
     }
     let member = r as usize + 1;
-    0 < text::byte_at(set, member)
+    0 < read_text::byte_at(set, member)
 }
 
 // Whether unit is in a set.
@@ -22,5 +22,5 @@ pub fn has_unit(set: &[u8]) -> bool
     if set.len() < Store::MEMBERS {
         return false;
     }
-    0 < text::byte_at(set, 0)
+    0 < read_text::byte_at(set, 0)
 }

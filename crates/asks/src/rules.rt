@@ -107,7 +107,7 @@ fn apply_passes(store: &[u8], rows: u8, argument: u8, names: &[u8], k: u8, to: &
     else {
         return true;
     };
-    let result = text::byte_at(names, body as usize);
+    let result = read_text::byte_at(names, body as usize);
     both_lie(store, rows, argument, parameter, result, to)
 }
 

@@ -82,7 +82,7 @@ pub fn count_rows(store: &[u8]) -> u8
     let mut r = 0;
     while r < Store::ROWS {
         let at = r * Store::ROW_SIZE;
-        if text::byte_at(store, at) == 0 {
+        if read_text::byte_at(store, at) == 0 {
             return r as u8;
         }
         r += 1;

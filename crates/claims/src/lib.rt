@@ -37,7 +37,7 @@ pub fn judge_claims(store: &[u8], rows: u8, grid: &[u8], line: usize) -> JudgeAn
     let mut held = 0;
     let mut c = 0;
     while c < Store::ROWS {
-        let code = text::byte_at(store, Store::CLAIMS + c);
+        let code = read_text::byte_at(store, Store::CLAIMS + c);
         let row = c as u8;
         c += 1;
         if code == 0 {

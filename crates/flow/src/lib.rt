@@ -112,8 +112,8 @@ fn keeps_form(
             right_name,
             right,
         } => {
-            let left_result = text::byte_at(names, left as usize);
-            let right_result = text::byte_at(names, right as usize);
+            let left_result = read_text::byte_at(names, left as usize);
+            let right_result = read_text::byte_at(names, right as usize);
             let ask = Ask::Case {
                 left_name,
                 left_result,

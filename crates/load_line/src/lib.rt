@@ -10,8 +10,8 @@ use read_sets::SetRead;
 use read_words::SectionRead;
 use read_words::WordRead;
 use store::Store;
-use text::Next;
-use text::NumberRead;
+use read_text::Next;
+use read_text::NumberRead;
 ghost use mathlib.Core.Path.{_≡_};
 ghost use Prim.Native.Nat.{_+_, _≤_, _<_};
 ghost use lib.ListN.{length};
@@ -76,7 +76,7 @@ fn keep_row(file: &[u8], at: usize, n: u16, store: &mut [u8], p: Progress) -> Li
     let RowRead::Found(raw, e) = read_rows::read_row(file, at) else {
         return LineRead::Refused(Reason::NotALine);
     };
-    let Next::At(next) = text::expect(file, e, b"]\n") else {
+    let Next::At(next) = read_text::expect(file, e, b"]\n") else {
         return LineRead::Refused(Reason::NotALine);
     };
     let above = read_rows::row_above(raw);
@@ -99,7 +99,7 @@ fn keep_set(file: &[u8], at: usize, n: u16, table: Table, store: &mut [u8], p: P
     let SetRead::Found(e, fault) = read_sets::read_set(file, at, &mut flags) else {
         return LineRead::Refused(Reason::NotALine);
     };
-    let Next::At(next) = text::expect(file, e, b"]\n") else {
+    let Next::At(next) = read_text::expect(file, e, b"]\n") else {
         return LineRead::Refused(Reason::NotALine);
     };
     let key = n as usize;
@@ -121,7 +121,7 @@ fn keep_claim(file: &[u8], at: usize, n: u16, store: &mut [u8], p: Progress) -> 
     let WordRead::Found(word, e) = read_words::read_word(file, at) else {
         return LineRead::Refused(Reason::NotALine);
     };
-    let Next::At(next) = text::expect(file, e, b"]\n") else {
+    let Next::At(next) = read_text::expect(file, e, b"]\n") else {
         return LineRead::Refused(Reason::NotALine);
     };
     let c = n as usize;
@@ -144,10 +144,10 @@ pub fn load_line(file: &[u8], at: usize, store: &mut [u8], p: Progress) -> LineR
     let SectionRead::Found(section, q) = read_words::read_section(file, at) else {
         return LineRead::Refused(Reason::NotALine);
     };
-    let NumberRead::Found(n, e) = text::read_argument(file, q) else {
+    let NumberRead::Found(n, e) = read_text::read_argument(file, q) else {
         return LineRead::Refused(Reason::NotALine);
     };
-    let Next::At(rest) = text::expect(file, e, b" ") else {
+    let Next::At(rest) = read_text::expect(file, e, b" ") else {
         return LineRead::Refused(Reason::NotALine);
     };
     match section {

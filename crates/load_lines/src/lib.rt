@@ -3,7 +3,7 @@ use format::Reason;
 use format::Refusal;
 use load_line::LineRead;
 use progress::Progress;
-use text::Next;
+use read_text::Next;
 ghost use mathlib.Core.Path.{_≡_};
 ghost use Prim.Native.Nat.{_≤_};
 ghost use lib.ListN.{length};
@@ -86,7 +86,7 @@ pub fn load_lines(file: &[u8], store: &mut [u8]) -> FileRead
     requires { ⌜ length (now file) ≤ byteLimit ⌝ }
     ensures { λ r. ⌜ FileIs (readFile (now (file .entry))) (now (store .entry)) r (now (store .exit)) ⌝ }
 {
-    let Next::At(start) = text::expect(file, 0, b"[dispenser 1]\n") else {
+    let Next::At(start) = read_text::expect(file, 0, b"[dispenser 1]\n") else {
         return FileRead::Refused(Refusal {
             reason: Reason::NotALine,
             line: 1,

@@ -200,7 +200,7 @@ fn mark_body(store: &[u8], rows: u8, results: &[u8], grid: &mut [u8], q: u8, res
     let Kind::Body { body, rest: _ } = kind_at(store, rows, k) else {
         return;
     };
-    let result = text::byte_at(results, k as usize);
+    let result = read_text::byte_at(results, k as usize);
     mark_call(grid, rows, q, rest, body, result);
 }
 

@@ -1,11 +1,11 @@
 // Forms, read from a slice at a position: the word that opens one, and its numbers, up to 999.
-use text::Next;
-use text::NumberRead;
+use read_text::Next;
+use read_text::NumberRead;
 ghost use mathlib.Core.Bool.{So};
 ghost use mathlib.Core.Path.{_≡_};
 ghost use Rattle.format.specs.Text.{oneOf};
 ghost use Rattle.format.specs.Read.{formWords, readForm};
-ghost use Rattle.text.specs.Reads.{noZero};
+ghost use Rattle.read_text.specs.Reads.{noZero};
 ghost use Rattle.read_forms.specs.Reads.{kindRead, thenWord, numbersRead, readNumbers, FormIs};
 
 // What a form opens with: its code, 2 to 15, and the position past its word, or no such word.
@@ -22,7 +22,7 @@ fn or_word(earlier: KindRead, s: &[u8], at: usize, word: &[u8], kind: u8) -> Kin
     if let KindRead::Found(k, p) = earlier {
         return KindRead::Found(k, p);
     }
-    if let Next::At(p) = text::expect(s, at, word) {
+    if let Next::At(p) = read_text::expect(s, at, word) {
         return KindRead::Found(kind, p);
     }
     KindRead::Missing
@@ -78,7 +78,7 @@ fn read_numbers(s: &[u8], at: usize, count: usize) -> NumbersRead
         };
         return NumbersRead::Found(none, at);
     }
-    let NumberRead::Found(n, p) = text::read_argument(s, at) else {
+    let NumberRead::Found(n, p) = read_text::read_argument(s, at) else {
         return NumbersRead::Missing;
     };
     let fewer = count - 1;
@@ -112,7 +112,7 @@ pub fn read_form(s: &[u8], at: usize) -> FormRead
     let NumbersRead::Found(numbers, q) = read_numbers(s, p, count) else {
         return FormRead::Missing;
     };
-    let Next::At(next) = text::expect(s, q, b"]") else {
+    let Next::At(next) = read_text::expect(s, q, b"]") else {
         return FormRead::Missing;
     };
     FormRead::Found(kind, numbers, next)

@@ -3,8 +3,8 @@ use program::Bind;
 use program::Row;
 use read_forms::FormRead;
 use store::Store;
-use text::Next;
-use text::NumberRead;
+use read_text::Next;
+use read_text::NumberRead;
 ghost use mathlib.Core.Bool.{false};
 ghost use mathlib.Core.Path.{_≡_};
 ghost use Prim.Native.Nat.{_%_};
@@ -34,16 +34,16 @@ pub enum RowRead {
 fn read_bind(s: &[u8], at: usize, name: u16) -> RowRead
     ensures { λ r. ⌜ rowRead r ≡ readBind name (now (s .entry)) at ⌝ }
 {
-    let Next::At(p) = text::expect(s, at, b" ") else {
+    let Next::At(p) = read_text::expect(s, at, b" ") else {
         return RowRead::Missing;
     };
     let FormRead::Found(kind, n, q) = read_forms::read_form(s, p) else {
         return RowRead::Missing;
     };
-    let NumberRead::Found(rest, t) = text::read_argument(s, q) else {
+    let NumberRead::Found(rest, t) = read_text::read_argument(s, q) else {
         return RowRead::Missing;
     };
-    let Next::At(next) = text::expect(s, t, b"]") else {
+    let Next::At(next) = read_text::expect(s, t, b"]") else {
         return RowRead::Missing;
     };
     let raw = RawRow {
@@ -63,7 +63,7 @@ fn read_bind(s: &[u8], at: usize, name: u16) -> RowRead
 fn read_result(s: &[u8], at: usize, name: u16) -> RowRead
     ensures { λ r. ⌜ rowRead r ≡ readResult name (now (s .entry)) at ⌝ }
 {
-    let Next::At(next) = text::expect(s, at, b"]") else {
+    let Next::At(next) = read_text::expect(s, at, b"]") else {
         return RowRead::Missing;
     };
     let raw = RawRow {
@@ -83,16 +83,16 @@ fn read_result(s: &[u8], at: usize, name: u16) -> RowRead
 pub fn read_row(s: &[u8], at: usize) -> RowRead
     ensures { λ r. ⌜ rowRead r ≡ readRow (now (s .entry)) at ⌝ }
 {
-    if let Next::At(p) = text::expect(s, at, b"[result") {
-        let NumberRead::Found(name, q) = text::read_argument(s, p) else {
+    if let Next::At(p) = read_text::expect(s, at, b"[result") {
+        let NumberRead::Found(name, q) = read_text::read_argument(s, p) else {
             return RowRead::Missing;
         };
         return read_result(s, q, name);
     }
-    let Next::At(p) = text::expect(s, at, b"[bind") else {
+    let Next::At(p) = read_text::expect(s, at, b"[bind") else {
         return RowRead::Missing;
     };
-    let NumberRead::Found(name, q) = text::read_argument(s, p) else {
+    let NumberRead::Found(name, q) = read_text::read_argument(s, p) else {
         return RowRead::Missing;
     };
     read_bind(s, q, name)

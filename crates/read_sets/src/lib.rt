@@ -1,7 +1,7 @@
 // Sets, read from a slice at a position: their members are marked in bytes of 0 and 1, and their fault is told.
 use store::Store;
-use text::Next;
-use text::NumberRead;
+use read_text::Next;
+use read_text::NumberRead;
 ghost use mathlib.Core.Path.{_≡_};
 ghost use lib.ListN.{length, set};
 ghost use Rattle.format.specs.Read.{readMembers, readSet};
@@ -77,10 +77,10 @@ fn read_members(s: &[u8], from: usize, earlier: SetFault, low: usize, flags: &mu
     let mut least = low;
     let mut left = s.len();
     while 0 < left {
-        if let Next::At(end) = text::expect(s, at, b"]") {
+        if let Next::At(end) = read_text::expect(s, at, b"]") {
             return SetRead::Found(end, fault);
         }
-        let NumberRead::Found(n, next) = text::read_argument(s, at) else {
+        let NumberRead::Found(n, next) = read_text::read_argument(s, at) else {
             return SetRead::Missing;
         };
         let m = n as usize + 1;
@@ -97,14 +97,14 @@ fn read_members(s: &[u8], from: usize, earlier: SetFault, low: usize, flags: &mu
 pub fn read_set(s: &[u8], at: usize, flags: &mut [u8]) -> SetRead
     ensures { λ r. ⌜ SetIs setFault (readSet (now (s .entry)) at) (now (flags .entry)) r (now (flags .exit)) ⌝ }
 {
-    let Next::At(p) = text::expect(s, at, b"[") else {
+    let Next::At(p) = read_text::expect(s, at, b"[") else {
         return SetRead::Missing;
     };
-    if let Next::At(q) = text::expect(s, p, b"u") {
+    if let Next::At(q) = read_text::expect(s, p, b"u") {
         mark(flags, 0);
         return read_members(s, q, SetFault::Nothing, 1, flags);
     }
-    let NumberRead::Found(n, q) = text::read_number(s, p) else {
+    let NumberRead::Found(n, q) = read_text::read_number(s, p) else {
         return SetRead::Missing;
     };
     let m = n as usize + 1;

@@ -1,7 +1,7 @@
 // The words that open lines and claims, read from a slice at a position.
 use format::Section;
 use program::Word;
-use text::Next;
+use read_text::Next;
 ghost use mathlib.Core.Path.{_≡_};
 ghost use Rattle.format.specs.Text.{oneOf};
 ghost use Rattle.format.specs.Read.{lineWords, claimWords};
@@ -17,16 +17,16 @@ pub enum SectionRead {
 pub fn read_section(s: &[u8], at: usize) -> SectionRead
     ensures { λ r. ⌜ sectionRead r ≡ oneOf lineWords (now (s .entry)) at ⌝ }
 {
-    if let Next::At(p) = text::expect(s, at, b"[row") {
+    if let Next::At(p) = read_text::expect(s, at, b"[row") {
         return SectionRead::Found(Section::Rows, p);
     }
-    if let Next::At(p) = text::expect(s, at, b"[flow") {
+    if let Next::At(p) = read_text::expect(s, at, b"[flow") {
         return SectionRead::Found(Section::Flows, p);
     }
-    if let Next::At(p) = text::expect(s, at, b"[comm") {
+    if let Next::At(p) = read_text::expect(s, at, b"[comm") {
         return SectionRead::Found(Section::Comms, p);
     }
-    if let Next::At(p) = text::expect(s, at, b"[claim") {
+    if let Next::At(p) = read_text::expect(s, at, b"[claim") {
         return SectionRead::Found(Section::Claims, p);
     }
     SectionRead::Missing
@@ -42,19 +42,19 @@ pub enum WordRead {
 pub fn read_word(s: &[u8], at: usize) -> WordRead
     ensures { λ r. ⌜ wordRead r ≡ oneOf claimWords (now (s .entry)) at ⌝ }
 {
-    if let Next::At(p) = text::expect(s, at, b"one-shot") {
+    if let Next::At(p) = read_text::expect(s, at, b"one-shot") {
         return WordRead::Found(Word::OneShot, p);
     }
-    if let Next::At(p) = text::expect(s, at, b"one-to-one") {
+    if let Next::At(p) = read_text::expect(s, at, b"one-to-one") {
         return WordRead::Found(Word::OneToOne, p);
     }
-    if let Next::At(p) = text::expect(s, at, b"fan-out") {
+    if let Next::At(p) = read_text::expect(s, at, b"fan-out") {
         return WordRead::Found(Word::FanOut, p);
     }
-    if let Next::At(p) = text::expect(s, at, b"fan-in") {
+    if let Next::At(p) = read_text::expect(s, at, b"fan-in") {
         return WordRead::Found(Word::FanIn, p);
     }
-    if let Next::At(p) = text::expect(s, at, b"many") {
+    if let Next::At(p) = read_text::expect(s, at, b"many") {
         return WordRead::Found(Word::Many, p);
     }
     WordRead::Missing

@@ -2,7 +2,7 @@
 use format::Refusal;
 ghost use mathlib.Core.List.{[], _∷_};
 ghost use Prim.Native.Nat.{_<_};
-ghost use Rattle.text.specs.Write.{Room, Wrote};
+ghost use Rattle.write_text.specs.Write.{Room, Wrote};
 ghost use Rattle.calls.specs.Report.{refusedText, acceptedText, yesNoText, wordsText, channelText};
 
 // Writes `[refused NUMBER LINE]`.
@@ -14,10 +14,10 @@ pub fn put_refused(out: &mut [u8], at: usize, refusal: Refusal) -> usize
     let line = refusal.line as u16;
     let reason = refusal.reason;
     let code = packing::number(reason) as u16;
-    let p = text::put_word(out, at, b"[refused");
-    let q = text::put_argument(out, p, code);
-    let r = text::put_argument(out, q, line);
-    text::put_word(out, r, b"]\n")
+    let p = write_text::put_word(out, at, b"[refused");
+    let q = write_text::put_argument(out, p, code);
+    let r = write_text::put_argument(out, q, line);
+    write_text::put_word(out, r, b"]\n")
 }
 
 // Writes `[accepted N]`.
@@ -25,9 +25,9 @@ pub fn put_accepted(out: &mut [u8], at: usize, claims: u16) -> usize
     requires { ⌜ Room at (acceptedText claims) ⌝ }
     ensures { λ r. ⌜ Wrote (now (out .entry)) at (acceptedText claims) r (now (out .exit)) ⌝ }
 {
-    let p = text::put_word(out, at, b"[accepted");
-    let q = text::put_argument(out, p, claims);
-    text::put_word(out, q, b"]\n")
+    let p = write_text::put_word(out, at, b"[accepted");
+    let q = write_text::put_argument(out, p, claims);
+    write_text::put_word(out, q, b"]\n")
 }
 
 // Writes a byte, and `yes` or `no` behind it.
@@ -35,11 +35,11 @@ fn put_yes_no(out: &mut [u8], at: usize, before: u8, word: bool) -> usize
     requires { ⌜ Room at (before ∷ yesNoText word) ⌝ }
     ensures { λ r. ⌜ Wrote (now (out .entry)) at (before ∷ yesNoText word) r (now (out .exit)) ⌝ }
 {
-    let p = text::put_byte(out, at, before);
+    let p = write_text::put_byte(out, at, before);
     if word {
-        return text::put_word(out, p, b"yes");
+        return write_text::put_word(out, p, b"yes");
     }
-    text::put_word(out, p, b"no")
+    write_text::put_word(out, p, b"no")
 }
 
 // Writes `[yes no ..]`.
@@ -58,7 +58,7 @@ fn put_words(
     let q = put_yes_no(out, p, 32, onetoone);
     let r = put_yes_no(out, q, 32, fanout);
     let s = put_yes_no(out, r, 32, fanin);
-    text::put_byte(out, s, 93)
+    write_text::put_byte(out, s, 93)
 }
 
 // Writes `[channel R [yes no ..]]`.
@@ -74,7 +74,7 @@ pub fn put_channel(
     requires { ⌜ Room at (channelText row (oneshot ∷ onetoone ∷ fanout ∷ fanin ∷ [])) ⌝ }
     ensures { λ r. ⌜ Wrote (now (out .entry)) at (channelText row (oneshot ∷ onetoone ∷ fanout ∷ fanin ∷ [])) r (now (out .exit)) ⌝ }
 {
-    let p = text::put_head(out, at, b"[channel", row);
+    let p = write_text::put_head(out, at, b"[channel", row);
     let q = put_words(out, p, oneshot, onetoone, fanout, fanin);
-    text::put_word(out, q, b"]\n")
+    write_text::put_word(out, q, b"]\n")
 }

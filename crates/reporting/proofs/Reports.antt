@@ -28,8 +28,8 @@ use Rattle.calls.specs.Report.{refusedText, acceptedText, channelLines, judgedT
 use Rattle.calls.proofs.Bounds.{Within, line-within, values-within, OpensTo, not-opened, decoded, opens-to, lastLine, load-within, judge-within}
 use Rattle.calls.proofs.Calls.{loaded-is, opened-loaded, judge-opened}
 use Rattle.calls.proofs.Report.{loadText, refused-short, judged-short, report-short, report-calls}
-use Rattle.text.specs.Write.{Room, Wrote}
-use Rattle.text.proofs.Progress.{at-head}
+use Rattle.write_text.specs.Write.{Room, Wrote}
+use Rattle.write_text.proofs.Progress.{at-head}
 use Rattle.opening.specs.declared.Opened.{Opened}
 use Rattle.opening.specs.Opening.{OpenedIs}
 use Rattle.opening.proofs.Opening.{refused-is, opens-is, opens-long}

@@ -19,7 +19,7 @@ ghost use Rattle.calls.specs.Layout.{storeSize, decode};
 ghost use Rattle.calls.specs.Canonical.{countRows};
 ghost use Rattle.calls.specs.Calls.{opened};
 ghost use Rattle.calls.specs.Report.{channelLine, channelLines, checkedText, report, reportLimit, LeavesReport, reported};
-ghost use Rattle.text.specs.Write.{Room, Wrote};
+ghost use Rattle.write_text.specs.Write.{Room, Wrote};
 ghost use Rattle.store.specs.Rows.{storeProgram};
 ghost use Rattle.tables.specs.Tables.{storeFlow};
 ghost use Rattle.grids.specs.Grid.{gridSize, Shows};

@@ -20,7 +20,7 @@ fn least(a: u8, b: u8) -> u8
 fn use_of(r: u8, n: u8, scope: &[u8]) -> u8
     ensures { λ m. ⌜ m ≡ useFault r n (now (scope .entry)) ⌝ }
 {
-    if text::byte_at(scope, n as usize) == 0 {
+    if read_text::byte_at(scope, n as usize) == 0 {
         return r;
     }
     NO_ROW

@@ -29,14 +29,14 @@ fn cells_at(store: &[u8], r: u8) -> Cells
 {
     let p = r as usize * Store::ROW_SIZE;
     Cells {
-        kind: text::byte_at(store, p),
-        name: text::byte_at(store, p + 1),
-        rest: text::byte_at(store, p + 2),
-        a: text::byte_at(store, p + 3),
-        b: text::byte_at(store, p + 4),
-        c: text::byte_at(store, p + 5),
-        d: text::byte_at(store, p + 6),
-        e: text::byte_at(store, p + 7),
+        kind: read_text::byte_at(store, p),
+        name: read_text::byte_at(store, p + 1),
+        rest: read_text::byte_at(store, p + 2),
+        a: read_text::byte_at(store, p + 3),
+        b: read_text::byte_at(store, p + 4),
+        c: read_text::byte_at(store, p + 5),
+        d: read_text::byte_at(store, p + 6),
+        e: read_text::byte_at(store, p + 7),
     }
 }
 

@@ -16,7 +16,7 @@ pub fn flow_flag(store: &[u8], n: u8, member: u8) -> u8
     if Store::MEMBERS <= m {
         return 0;
     }
-    text::byte_at(store, Store::FLOWS + name * Store::MEMBERS + m)
+    read_text::byte_at(store, Store::FLOWS + name * Store::MEMBERS + m)
 }
 
 // The same of the set of channel row c.
@@ -31,7 +31,7 @@ pub fn comm_flag(store: &[u8], c: u8, member: u8) -> u8
     if Store::MEMBERS <= m {
         return 0;
     }
-    text::byte_at(store, Store::COMMS + channel * Store::MEMBERS + m)
+    read_text::byte_at(store, Store::COMMS + channel * Store::MEMBERS + m)
 }
 
 // Whether row r is in the set of name n.

@@ -55,10 +55,10 @@ fn leads(rows: u8, places: &[u8], ahead: &[u8], r: u8) -> bool
         return false;
     }
     let i = r as usize;
-    if 0 < text::byte_at(places, i) {
+    if 0 < read_text::byte_at(places, i) {
         return true;
     }
-    0 < text::byte_at(ahead, i)
+    0 < read_text::byte_at(ahead, i)
 }
 
 // Whether row q is a spawn row whose spawned row and whose rest both lead to places.
@@ -85,7 +85,7 @@ pub fn rivals(store: &[u8], rows: u8, reached: &[u8], places: &[u8], ahead: &[u8
 {
     let mut q = 0;
     while q < rows {
-        if text::byte_at(reached, q as usize) == 0 {
+        if read_text::byte_at(reached, q as usize) == 0 {
             q += 1;
             continue;
         }

@@ -13,7 +13,7 @@ ghost use Rattle.format.specs.Print.{formText, rowText, lineText, rowLines};
 ghost use Rattle.format.specs.Document.{row};
 ghost use Rattle.calls.specs.Layout.{rowSize, storeSize, rowOf};
 ghost use Rattle.store.specs.Rows.{storeProgram};
-ghost use Rattle.text.specs.Write.{Room, Wrote};
+ghost use Rattle.write_text.specs.Write.{Room, Wrote};
 ghost use Rattle.write_rows.specs.Texts.{kindWord, resultText};
 
 // Writes numbers, each with a space before it.
@@ -25,7 +25,7 @@ fn put_arguments(out: &mut [u8], at: usize, numbers: &[u8]) -> usize
     let mut i = 0;
     while i < numbers.len() {
         let n = numbers[i] as u16;
-        next = text::put_argument(out, next, n);
+        next = write_text::put_argument(out, next, n);
         i += 1;
     }
     next
@@ -37,7 +37,7 @@ fn put_part(out: &mut [u8], at: usize, text: &[u8], from: usize, to: usize) -> u
     requires { ⌜ Room at (take (to - from) (drop from (now text))) ⌝ }
     ensures { λ r. ⌜ Wrote (now (out .entry)) at (take (to - from) (drop from (now (text .entry)))) r (now (out .exit)) ⌝ }
 {
-    text::put_word(out, at, &text[from..to])
+    write_text::put_word(out, at, &text[from..to])
 }
 
 // Writes the word of a kind, with the bracket before it.
@@ -67,7 +67,7 @@ fn put_form(out: &mut [u8], at: usize, kind: u8, numbers: &[u8]) -> usize
     let count = arity(kind);
     let p = put_kind(out, at, kind);
     let q = put_arguments(out, p, &numbers[..count]);
-    text::put_byte(out, q, 93)
+    write_text::put_byte(out, q, 93)
 }
 
 // Writes a result row.
@@ -75,9 +75,9 @@ fn put_result(out: &mut [u8], at: usize, name: u8) -> usize
     requires { ⌜ Room at (resultText name) ⌝ }
     ensures { λ r. ⌜ Wrote (now (out .entry)) at (resultText name) r (now (out .exit)) ⌝ }
 {
-    let p = text::put_word(out, at, b"[result");
-    let q = text::put_argument(out, p, name as u16);
-    text::put_byte(out, q, 93)
+    let p = write_text::put_word(out, at, b"[result");
+    let q = write_text::put_argument(out, p, name as u16);
+    write_text::put_byte(out, q, 93)
 }
 
 // Writes a row.
@@ -92,10 +92,10 @@ fn put_row(out: &mut [u8], at: usize, row: &[u8]) -> usize
     if kind == 1 {
         return put_result(out, at, name);
     }
-    let p = text::put_head(out, at, b"[bind", name as u16);
+    let p = write_text::put_head(out, at, b"[bind", name as u16);
     let q = put_form(out, p, kind, &row[3..]);
-    let s = text::put_argument(out, q, rest as u16);
-    text::put_byte(out, s, 93)
+    let s = write_text::put_argument(out, q, rest as u16);
+    write_text::put_byte(out, s, 93)
 }
 
 // Writes the line of row r.
@@ -104,9 +104,9 @@ fn put_row_line(out: &mut [u8], at: usize, r: u8, x: &[u8]) -> usize
     requires { ⌜ Room at (lineText (row r (rowOf (now x)))) ⌝ }
     ensures { λ y. ⌜ Wrote (now (out .entry)) at (lineText (row r (rowOf (now (x .entry))))) y (now (out .exit)) ⌝ }
 {
-    let p = text::put_head(out, at, b"[row", r as u16);
+    let p = write_text::put_head(out, at, b"[row", r as u16);
     let q = put_row(out, p, x);
-    text::put_word(out, q, b"]\n")
+    write_text::put_word(out, q, b"]\n")
 }
 
 // Writes the lines of the first rows of a store.

@@ -10,7 +10,7 @@ ghost use Rattle.format.specs.Limits.{rowLimit};
 ghost use Rattle.format.specs.Print.{memberText, setText};
 ghost use Rattle.format.specs.Read.{present};
 ghost use Rattle.calls.specs.Layout.{setsSize, membersFrom, withEntry, decodeSets};
-ghost use Rattle.text.specs.Write.{Room, Wrote};
+ghost use Rattle.write_text.specs.Write.{Room, Wrote};
 ghost use Rattle.write_sets.specs.Texts.{entryText};
 
 // Writes a member: `u`, or the row's number.
@@ -20,10 +20,10 @@ fn put_member(out: &mut [u8], at: usize, m: usize) -> usize
     ensures { λ r. ⌜ Wrote (now (out .entry)) at (memberText m) r (now (out .exit)) ⌝ }
 {
     if m == 0 {
-        return text::put_byte(out, at, 117);
+        return write_text::put_byte(out, at, 117);
     }
     let row = (m - 1) as u16;
-    text::put_number(out, at, row)
+    write_text::put_number(out, at, row)
 }
 
 // The larger number.
@@ -61,12 +61,12 @@ fn put_set(out: &mut [u8], at: usize, flags: &[u8]) -> usize
             m += 1;
             continue;
         }
-        let p = text::put_byte(out, next, sep);
+        let p = write_text::put_byte(out, next, sep);
         next = put_member(out, p, m);
         sep = 32;
         m += 1;
     }
-    text::put_byte(out, next, 93)
+    write_text::put_byte(out, next, 93)
 }
 
 // Writes the line of a set, or nothing where the set is empty.
@@ -78,9 +78,9 @@ fn put_set_line(out: &mut [u8], at: usize, word: &[u8], n: u16, flags: &[u8]) ->
     if !has_member(flags) {
         return at;
     }
-    let p = text::put_head(out, at, word, n);
+    let p = write_text::put_head(out, at, word, n);
     let q = put_set(out, p, flags);
-    text::put_word(out, q, b"]\n")
+    write_text::put_word(out, q, b"]\n")
 }
 
 // Writes the lines of the sets of all names or channels; their bytes stand at the head of a slice.

@@ -7,7 +7,7 @@ ghost use Rattle.format.specs.Text.{ascii};
 ghost use Rattle.format.specs.Document.{claim};
 ghost use Rattle.format.specs.Print.{wordText, lineText};
 ghost use Rattle.calls.specs.Layout.{wordOf, decodeClaims};
-ghost use Rattle.text.specs.Write.{Room, Wrote};
+ghost use Rattle.write_text.specs.Write.{Room, Wrote};
 
 // Writes the word of a code.
 fn put_claim_word(out: &mut [u8], at: usize, code: u8) -> usize
@@ -15,11 +15,11 @@ fn put_claim_word(out: &mut [u8], at: usize, code: u8) -> usize
     ensures { λ r. ⌜ Wrote (now (out .entry)) at (ascii (wordText (wordOf code))) r (now (out .exit)) ⌝ }
 {
     match code {
-        1 => text::put_word(out, at, b"one-shot"),
-        2 => text::put_word(out, at, b"one-to-one"),
-        3 => text::put_word(out, at, b"fan-out"),
-        4 => text::put_word(out, at, b"fan-in"),
-        _ => text::put_word(out, at, b"many"),
+        1 => write_text::put_word(out, at, b"one-shot"),
+        2 => write_text::put_word(out, at, b"one-to-one"),
+        3 => write_text::put_word(out, at, b"fan-out"),
+        4 => write_text::put_word(out, at, b"fan-in"),
+        _ => write_text::put_word(out, at, b"many"),
     }
 }
 
@@ -31,9 +31,9 @@ fn put_claim(out: &mut [u8], at: usize, c: u16, code: u8) -> usize
     if code == 0 {
         return at;
     }
-    let p = text::put_head(out, at, b"[claim", c);
+    let p = write_text::put_head(out, at, b"[claim", c);
     let q = put_claim_word(out, p, code);
-    text::put_word(out, q, b"]\n")
+    write_text::put_word(out, q, b"]\n")
 }
 
 // Writes the lines of the claims, of which each row has a code.

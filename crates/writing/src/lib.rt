@@ -8,7 +8,7 @@ ghost use Prim.Native.Nat.{_≤_};
 ghost use lib.ListN.{length, take};
 ghost use Rattle.format.specs.Print.{documentText};
 ghost use Rattle.calls.specs.Layout.{storeSize};
-ghost use Rattle.text.specs.Write.{Room, Wrote};
+ghost use Rattle.write_text.specs.Write.{Room, Wrote};
 ghost use Rattle.store.specs.Document.{storeDocument};
 
 mod claims; // claims.rt: claim lines
@@ -18,7 +18,7 @@ fn put_store(out: &mut [u8], store: &[u8], rows: u8) -> usize
     requires { ⌜ length (now store) ≡ storeSize ⌝ }
     ensures { λ r. ⌜ Wrote (now (out .entry)) 0 (documentText (storeDocument rows (now (store .entry)))) r (now (out .exit)) ⌝ }
 {
-    let a = text::put_word(out, 0, b"[dispenser 1]\n");
+    let a = write_text::put_word(out, 0, b"[dispenser 1]\n");
     let b = put_rows(out, a, store, rows);
     let c = put_sets(out, b, b"[flow", &store[Store::FLOWS..]);
     let d = put_sets(out, c, b"[comm", &store[Store::COMMS..]);

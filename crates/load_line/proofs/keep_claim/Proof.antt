@@ -4,7 +4,7 @@ use borrow.Author.Needs.{needs}
 use Rattle.program.specs.Maybe.{_>>=_}
 use Rattle.format.specs.Read.{readContent}
 use Rattle.format.specs.Text.{ascii}
-use Rattle.text.specs.Reads.{nextRead}
+use Rattle.read_text.specs.Reads.{nextRead}
 use Rattle.read_words.specs.Reads.{wordRead}
 use Rattle.progress.specs.Lines.{faultRead}
 use Rattle.load_line.specs.Line.{readRest}

@@ -2,7 +2,7 @@
 use mathlib.Core.Path.{refl, sym, ap, _∙_}
 use borrow.Author.Needs.{needs}
 use Rattle.format.specs.Text.{ascii}
-use Rattle.text.specs.Reads.{nextRead}
+use Rattle.read_text.specs.Reads.{nextRead}
 use Rattle.progress.specs.Lines.{faultRead}
 use Rattle.load_line.proofs.Keeps.{unread, set-line-missing, set-line-cut, set-line, set-refused, set-room, set-kept}
 use Rattle.progress.proofs.Faults.{set-fits}

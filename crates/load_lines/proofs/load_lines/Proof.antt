@@ -3,7 +3,7 @@ use mathlib.Core.Path.{sym, ap, _∙_}
 use borrow.Author.Needs.{needs}
 use Rattle.format.specs.Print.{header}
 use Rattle.format.specs.Text.{ascii}
-use Rattle.text.specs.Reads.{nextRead}
+use Rattle.read_text.specs.Reads.{nextRead}
 use Rattle.load_lines.proofs.Rest.{no-header, with-header}
 use Rattle.load_lines.proofs.load_lines.Statement.{statement}
 use Rattle.load_lines.proofs.load_lines.Tie as tie

@@ -4,7 +4,7 @@ use borrow.Author.Needs.{needs}
 use borrow.Fn.Kinds.{In}
 use borrow.Fn.PlainCycle.{Measures, is, falls, and}
 use Rattle.program.specs.Maybe.{_>>=_}
-use Rattle.text.proofs.read_argument.Reads as read-argument-reads
+use Rattle.read_text.proofs.read_argument.Reads as read-argument-reads
 use Rattle.read_forms.proofs.Forms.{none-read, next-read}
 use Rattle.read_forms.proofs.read_numbers.Reads as read-numbers
 use Rattle.read_forms.proofs.read_numbers.Kinds as read-numbers-kinds

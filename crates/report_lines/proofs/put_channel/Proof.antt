@@ -1,7 +1,7 @@
 -- The writes, one after the other, are the parts of the line.
 use Rattle.format.specs.Text.{ascii}
-use Rattle.text.proofs.Writing.{then, room-first, room-then}
-use Rattle.text.proofs.Head.{room-head, room-behind, then-behind}
+use Rattle.write_text.proofs.Writing.{then, room-first, room-then}
+use Rattle.write_text.proofs.Head.{room-head, room-behind, then-behind}
 use Rattle.calls.specs.Report.{channelText}
 use borrow.Author.Needs.{needs}
 use Rattle.report_lines.proofs.put_channel.Statement.{statement}

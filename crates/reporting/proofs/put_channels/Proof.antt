@@ -4,8 +4,8 @@ use native.Mathlib.Omega.{arith}
 use Rattle.program.specs.Each.{collect}
 use Rattle.calls.specs.Layout.{decode}
 use Rattle.calls.specs.Report.{channelLine, channelLines}
-use Rattle.text.proofs.Writing.{room-first}
-use Rattle.text.proofs.Progress.{Progress, begin, same-rest, room-left, onward, finished, kept}
+use Rattle.write_text.proofs.Writing.{room-first}
+use Rattle.write_text.proofs.Progress.{Progress, begin, same-rest, room-left, onward, finished, kept}
 use Rattle.reporting.proofs.Rows.{rowsFrom, rows-next, rows-end, lines-are}
 use borrow.Author.Needs.{needs}
 use Rattle.reporting.proofs.put_channels.Statement.{statement}

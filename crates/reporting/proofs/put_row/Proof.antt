@@ -1,6 +1,6 @@
 -- The line of a chan row has the words that the grid tells; another row has no line.
 use mathlib.Core.Path.{sym, _∙_}
-use Rattle.text.proofs.Writing.{nothing}
+use Rattle.write_text.proofs.Writing.{nothing}
 use Rattle.judging.proofs.Documents.{few-rows}
 use Rattle.reporting.proofs.Rows.{channel-line, no-line}
 use borrow.Author.Needs.{needs}

@@ -4,9 +4,9 @@ use native.Mathlib.Omega.{arith}
 use lib.ListN.{length, drop}
 use borrow.Author.Needs.{needs}
 use Rattle.format.specs.Text.{arguments}
-use Rattle.text.proofs.Writing.{room-first}
+use Rattle.write_text.proofs.Writing.{room-first}
 use Rattle.write_rows.proofs.Parts.{arguments-next, arguments-end}
-use Rattle.text.proofs.Progress.{Progress, begin, same-rest, room-left, onward, finished, kept}
+use Rattle.write_text.proofs.Progress.{Progress, begin, same-rest, room-left, onward, finished, kept}
 use Rattle.write_rows.proofs.put_arguments.Statement.{statement}
 use Rattle.write_rows.proofs.put_arguments.Tie as tie
 

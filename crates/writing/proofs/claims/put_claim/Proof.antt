@@ -4,8 +4,8 @@ use Rattle.program.specs.Each.{collect}
 use Rattle.format.specs.Print.{lineText}
 use Rattle.format.specs.Text.{ascii}
 use Rattle.calls.specs.Layout.{decodeClaims}
-use Rattle.text.proofs.Writing.{nothing, then, room-first, room-then}
-use Rattle.text.proofs.Head.{room-head, room-behind, then-behind}
+use Rattle.write_text.proofs.Writing.{nothing, then, room-first, room-then}
+use Rattle.write_text.proofs.Head.{room-head, room-behind, then-behind}
 use Rattle.writing.proofs.Parts.{one-claim}
 use Rattle.writing.proofs.claims.put_claim.Statement.{statement}
 use Rattle.writing.proofs.claims.put_claim.Tie as tie

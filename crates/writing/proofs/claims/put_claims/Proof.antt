@@ -4,9 +4,9 @@ use native.Mathlib.Omega.{arith}
 use lib.ListN.{length, drop}
 use borrow.Author.Needs.{needs}
 use Rattle.calls.specs.Layout.{decodeClaims}
-use Rattle.text.proofs.Writing.{room-first}
+use Rattle.write_text.proofs.Writing.{room-first}
 use Rattle.writing.proofs.Parts.{claimsText, claims-next, claims-end}
-use Rattle.text.proofs.Progress.{Progress, begin, same-rest, room-left, onward, finished, kept}
+use Rattle.write_text.proofs.Progress.{Progress, begin, same-rest, room-left, onward, finished, kept}
 use Rattle.writing.proofs.claims.put_claims.Statement.{statement}
 use Rattle.writing.proofs.claims.put_claims.Tie as tie
 

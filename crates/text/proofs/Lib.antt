@@ -1,5 +1,0 @@
--- Laws that the proofs of the functions share.
-pub mod Reading
-pub mod Writing
-pub mod Progress
-pub mod Head

@@ -1,3 +1,0 @@
--- What the answers of this crate say, and what its writes leave.
-pub mod Reads
-pub mod Write

@@ -1,0 +1,4 @@
+-- Laws of texts that are written in parts.
+pub mod Writing
+pub mod Progress
+pub mod Head

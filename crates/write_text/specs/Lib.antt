@@ -1,0 +1,2 @@
+-- What the writes of this crate leave.
+pub mod Write
