@@ -121,7 +121,7 @@ loaded-is file store c e =
     let (d, q, w, s, k) = load-takes file store l c .0 e in
     (d, q, w, s, k, ap (λ (f : Bytes). load f store .bytes) q ∙ load-keeps d w (subst (λ (f : Bytes). length f ≤ byteLimit) q s) store l)
 
-orderly-of : (d : Document) → So (wellFormed d) → So (orderly d)
+pub orderly-of : (d : Document) → So (wellFormed d) → So (orderly d)
 unfolding wellFormed
 orderly-of d w = and-left (orderly d) _ w
 

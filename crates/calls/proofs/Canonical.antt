@@ -77,7 +77,7 @@ flags-iff s =
     let c = take setsSize (commsPart s) in
     rw (take-add setsSize setsSize (flowsPart s)) (λ t. (every-left test f c t, every-right test f c t), λ (t, u). every-append test f c t u)
 
-drop-thrice : (a b c : ℕ) (s : Bytes) → drop c (drop b (drop a s)) ≡ drop (a + b + c) s
+pub drop-thrice : (a b c : ℕ) (s : Bytes) → drop c (drop b (drop a s)) ≡ drop (a + b + c) s
 drop-thrice a b c s = ap (drop c) (drop-drop b a s) ∙ drop-drop c (a + b) s
 
 claims-part : (s : Bytes) → claimsSound s ≡ every (λ b. ltb b codeLimit) (claimsPart s)

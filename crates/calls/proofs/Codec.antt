@@ -34,7 +34,7 @@ use Rattle.calls.proofs.Codec.Sets.{sets-bytes-length, sets-bytes-back,
 use Rattle.calls.proofs.Codec.Claims.{claims-range, claims-back}
 
 -- the numbers of a line stay below the limit
-abbrev Low : Line → Type 0
+abbrev pub Low : Line → Type 0
 Low l = Each (λ n. n < rowLimit) (lineNumbers l)
 
 -- what is used of an orderly document
@@ -48,7 +48,7 @@ record Facts (d : Document) : Type 0 where
   comms-rise : So (entriesRise (d .comms))
   claims-rise : So (rising (map (λ (c : Claim). c .channel) (d .claims)))
 
-low : (l : Line) → So (not (aboveLimit l)) → Low l
+pub low : (l : Line) → So (not (aboveLimit l)) → Low l
 unfolding aboveLimit
 low l t = each-imp (λ n s. ltb-true n rowLimit s) (every-elim (λ n. ltb n rowLimit) (lineNumbers l) (rw Bool·not-not at t))
 
@@ -80,10 +80,10 @@ every-byte [] nil = refl
 every-byte (b ∷ bs) (h & hs) = and-intro (lt-ltb b 256 h) (every-byte bs hs)
 
 module _ (d : Document) (ok : So (orderly d)) where
-  all-fit : length (d .rows) ≤ rowLimit
+  pub all-fit : length (d .rows) ≤ rowLimit
   all-fit = let h = rows-fit rowLimit 0 (d .rows) (omega arith) (facts d ok .rows-low) in omega arith
 
-  rows-bytes-length : length (padded rowsSize (collect rowBytes (d .rows))) ≡ rowsSize
+  pub rows-bytes-length : length (padded rowsSize (collect rowBytes (d .rows))) ≡ rowsSize
   rows-bytes-length = rows-part-length rowLimit (d .rows) all-fit
 
   -- the store's fixed size is filled

@@ -25,3 +25,15 @@ module _ {A : Type 0} (ok : A → Bool) where
       go false e o h = fails {n = line} [] x xs refl nil e (omega arith)
       go true e none (all-pass h) = all-pass (e & h)
       go true e (some n) (fails before y after s h q m) = fails {n = n} (x ∷ before) y after (ap (λ (l : List A). x ∷ l) s) (e & h) q (omega arith)
+
+  -- none fails exactly if each passes
+  pub none-first : (line : ℕ) (xs : List A) → Each (λ x. So (ok x)) xs → firstFailing ok line xs ≡ none
+  unfolding firstFailing
+  none-first line [] nil = refl
+  none-first line (x ∷ xs) (h & hs) = rw (h, firstFailing) (none-first (line + 1) xs hs)
+
+  pub first-none : (line : ℕ) (xs : List A) → firstFailing ok line xs ≡ none → Each (λ x. So (ok x)) xs
+  first-none line xs e = go (rw e at (first-is line xs))
+    where
+      go : First line xs none → Each (λ x. So (ok x)) xs
+      go (all-pass h) = h

@@ -13,14 +13,15 @@ use borrow.Author.Tests.{not-false, not-true, ne-eqb, eqb-false}
 use Rattle.program.specs.declared.Row.{Row}
 use Rattle.program.specs.Test.{all, least}
 use Rattle.program.specs.Maybe.{_>>=_, _<|>_}
-use Rattle.program.specs.Each.{every, collect, elem}
+use Rattle.program.specs.Each.{Each, every, collect, elem}
 use Rattle.program.specs.Program.{Program, rowAt, pointers, binders}
 use Rattle.program.proofs.Test.{and-left, and-right, and-intro, not-intro, not-elim, or-cases, or-left, or-right, all-intro, least-none}
 use Rattle.program.proofs.WellFormed.{distinct, pointersRise, WellFormed}
 use Rattle.format.specs.declared.Reason.the-variants.{WrongPointer, BoundTwice, OutOfScope, NotAllowed}
 use Rattle.format.specs.declared.Refusal.{Refusal}
-use Rattle.format.specs.Document.{Document}
-use Rattle.format.specs.Structure.{wrongPointers, pointerFault, boundEarlier, binderFault, scopeLine, notAllowed, structureFault}
+use Rattle.format.specs.Document.{Entry, Document, withTables}
+use Rattle.format.specs.Structure.{wrongPointers, pointerFault, boundEarlier, binderFault, scopeLine, flowAllowed, commAllowed, claimAllowed, firstFailing, flowLine, commLine, claimLine, notAllowed, structureFault}
+use Rattle.format.proofs.First.{none-first, first-none}
 
 or-false : (a b : Bool) → (a || b) ≡ false → (a ≡ false) × (b ≡ false)
 or-false true b e = absurd (false≢true (sym e))
@@ -140,3 +141,32 @@ well-formed d e =
     pointed r l =
         right-pointers (length (d .rows)) r (collect pointers (take r (d .rows))) (pointers (rowAt (d .rows) r))
         (or-false (wrongPointers (length (d .rows)) r (collect pointers (take r (d .rows))) (pointers (rowAt (d .rows) r))) _ (structured d e .pointers-right r l) .0)
+
+-- ---- other flow and comm lines
+
+three : (a b c : Option ℕ) → (a <|> b <|> c) ≡ none → c ≡ none
+unfolding _<|>_
+three none none c e = e
+three (some x) b c e = let z : _≡_ {A = ℕ} 0 1 = cc in absurd (omega arith)
+three none (some x) c e = let z : _≡_ {A = ℕ} 0 1 = cc in absurd (omega arith)
+
+last-other : (a b c x y : Option Refusal) → (a <|> b <|> c <|> x) ≡ none → y ≡ none → (a <|> b <|> c <|> y) ≡ none
+unfolding _<|>_
+last-other a b c x y e h = let (i, j, k, _) = alternatives a b c x e in rw (i, j, k, h)
+
+claims-fine : (d : Document) → notAllowed d ≡ none → firstFailing (claimAllowed (d .rows)) (claimLine d) (d .claims) ≡ none
+unfolding notAllowed
+claims-fine d e = three _ _ _ e
+
+-- lines that are allowed in the place of those of a document without a structure fault
+pub other-tables : (d : Document) (flows comms : List Entry) → structureFault d ≡ none
+    → Each (λ e. So (flowAllowed (d .rows) e)) flows → Each (λ e. So (commAllowed (d .rows) e)) comms → structureFault (withTables d flows comms) ≡ none
+unfolding structureFault _>>=_
+other-tables d flows comms e f c = last-other _ _ _ _ _ e (rw allowed-here)
+  where
+    allowed-here : notAllowed (withTables d flows comms) ≡ none
+    allowed-here = unfold notAllowed _<|>_ in rw (
+      none-first (flowAllowed (d .rows)) (flowLine (withTables d flows comms)) flows f,
+      none-first (commAllowed (d .rows)) (commLine (withTables d flows comms)) comms c,
+      none-first (claimAllowed (d .rows)) (claimLine (withTables d flows comms)) (d .claims) (first-none (claimAllowed (d .rows)) (claimLine d) (d .claims) (claims-fine d (structured d e .allowed))),
+    )

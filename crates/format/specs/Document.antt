@@ -38,6 +38,10 @@ membersAt (e ∷ es) n = elim (eqb n (e .key)) [ true ↦ e .members | false ↦
 unfoldable pub tableOf : List Entry → Table
 tableOf es n a = elem (member a) (membersAt es n)
 
+-- the same rows and claims with other flow and comm lines
+abbrev pub withTables : Document → List Entry → List Entry → Document
+withTables d flows comms = record { rows = d .rows; flows = flows; comms = comms; claims = d .claims }
+
 -- a line after the first
 pub data Line : Type 0 where
   row : ℕ → Row → Line

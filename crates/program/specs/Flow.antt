@@ -12,6 +12,7 @@ use Rattle.program.specs.Program.{Program, bindAt, chanAt, sendAt, recvA
 pub data Abstract : Type 0 where
   u : Abstract
   row : ℕ → Abstract
+  deriving Discrete as Abstract-discrete
 
 abbrev pub Set : Type 0
 Set = Abstract → Bool

@@ -37,7 +37,7 @@ elem-below k [] nil = refl
 elem-below k (m ∷ ms) (l & h) = rw (ne-eqb k m (omega arith)) (elem-below k ms h)
 
 -- a byte of 0 or 1 is the flag of its member
-flag-again : (i : ℕ) (fs : Bytes) → Each (λ b. b < 2) fs → (j : ℕ) → pick (elem (i + j) (membersFrom i fs)) 1 0 ≡ getD fs j 0
+pub flag-again : (i : ℕ) (fs : Bytes) → Each (λ b. b < 2) fs → (j : ℕ) → pick (elem (i + j) (membersFrom i fs)) 1 0 ≡ getD fs j 0
 unfolding membersFrom elem
 flag-again i [] h j = refl
 flag-again i (b ∷ fs) (l & h) zero =
@@ -81,7 +81,7 @@ unfolding decodeSets
 sets-fine zero n s = nil
 sets-fine (suc k) n s = members-fine n (take memberLimit s) (decodeSets k (suc n) (drop memberLimit s)) (rw length-take (omega arith)) (sets-fine k (suc n) (drop memberLimit s))
 
-abbrev keyOf : Entry → ℕ
+abbrev pub keyOf : Entry → ℕ
 keyOf e = e .key
 
 with-entry-within : (n k : ℕ) (ms : List ℕ) {es : List Entry} → Within keyOf (suc n) k es → Within keyOf n (suc k) (withEntry n ms es)
@@ -89,7 +89,7 @@ unfolding withEntry
 with-entry-within n k [] h = within-skip keyOf n k h
 with-entry-within n k (m ∷ ms) h = within-cons keyOf n k (record { key = n; members = m ∷ ms }) refl h
 
-sets-within : (k n : ℕ) (s : Bytes) → Within keyOf n k (decodeSets k n s)
+pub sets-within : (k n : ℕ) (s : Bytes) → Within keyOf n k (decodeSets k n s)
 unfolding decodeSets rising
 sets-within zero n s = (nil, refl)
 sets-within (suc k) n s = with-entry-within n k (membersFrom 0 (take memberLimit s)) (sets-within k (suc n) (drop memberLimit s))
@@ -110,7 +110,7 @@ members-past n c [] es d = refl
 members-past n c (m ∷ ms) es d = rw (ne-eqb c n d, membersAt)
 
 -- the set at each place
-set-again : (k n : ℕ) (s : Bytes) (j : ℕ) → j < k → membersAt (decodeSets k n s) (n + j) ≡ membersFrom 0 (take memberLimit (drop (j * memberLimit) s))
+pub set-again : (k n : ℕ) (s : Bytes) (j : ℕ) → j < k → membersAt (decodeSets k n s) (n + j) ≡ membersFrom 0 (take memberLimit (drop (j * memberLimit) s))
 unfolding decodeSets
 set-again zero n s j l = absurd (omega arith)
 set-again (suc k) n s zero l =

@@ -36,16 +36,16 @@ row-of p r b e = go (rowAt p r) refl e
     go (Row.Bind d) q h = cc
 
 -- the members of a list of numbers as a test finds them
-member-elem : {n : ℕ} {xs : List ℕ} → Member n xs → So (elem n xs)
+pub member-elem : {n : ℕ} {xs : List ℕ} → Member n xs → So (elem n xs)
 unfolding elem
 member-elem {n} (here {x = x} {xs = xs} e) = or-left (elem n xs) (eq-eqb n x e)
 member-elem {n} (there {x = x} {xs = xs} m) = or-right (eqb n x) (member-elem m)
 
-member-left : {n : ℕ} {xs : List ℕ} (ys : List ℕ) → Member n xs → Member n (xs ++ ys)
+pub member-left : {A : Type 0} {n : A} {xs : List A} (ys : List A) → Member n xs → Member n (xs ++ ys)
 member-left ys (here e) = here e
 member-left ys (there m) = there (member-left ys m)
 
-member-right : {n : ℕ} (xs : List ℕ) {ys : List ℕ} → Member n ys → Member n (xs ++ ys)
+pub member-right : {A : Type 0} {n : A} (xs : List A) {ys : List A} → Member n ys → Member n (xs ++ ys)
 member-right [] m = m
 member-right (x ∷ xs) m = there (member-right xs m)
 
@@ -76,7 +76,7 @@ distinct-apart ys t (here {x = x} {xs = xs} e) k =
 distinct-apart ys t (there {x = x} {xs = xs} m) k = distinct-apart ys (search and-right) m k
 
 module _ (f : Row → List ℕ) where
-  member-collect : (n : ℕ) (p : Program) (r : ℕ) → r < length p → Member n (f (rowAt p r)) → Member n (collect f p)
+  pub member-collect : (n : ℕ) (p : Program) (r : ℕ) → r < length p → Member n (f (rowAt p r)) → Member n (collect f p)
   unfolding collect rowAt
   member-collect n [] r l m = absurd (omega arith)
   member-collect n (x ∷ p) zero l m = member-left (collect f p) m

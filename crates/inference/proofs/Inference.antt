@@ -1,0 +1,325 @@
+-- No. 1: the store with the smallest tables opens again, keeps its rows and claims, keeps every flow rule, and its tables lie in all that do.
+use Prim.Native.Nat.{ℕ, zero, suc, _+_, _≤_, _<_}
+use native.Mathlib.Omega.{arith}
+use mathlib.Core.Bool.{Bool, true, false, not, So, false≢true}
+use mathlib.Core.List.{List, [], _∷_, _++_, map, append-assoc}
+use mathlib.Core.Option.{Option, none, some}
+use mathlib.Core.Path.{_≡_, refl, sym, ap, _∙_}
+use mathlib.Core.Logic.{_≢_}
+use lib.ListN.{length, take, drop, take-append-drop}
+use lib.Seq.{take-at, drop-at}
+use lib.Dec.{ltb, lit≤}
+use Rattle.program.specs.declared.Row.{Row}
+use Rattle.program.specs.declared.Form.{Form}
+use Rattle.program.specs.declared.Form.the-variants.{Chan, Send, Recv, Pair, Left, Right, Fun, Spawn, Sync, First, Second, Case, Apply}
+use Rattle.program.specs.Each.{every, collect}
+use Rattle.program.specs.Program.{Program, bindersOf, binders}
+use Rattle.program.specs.Flow.{Abstract, u, row, Table}
+use Rattle.program.specs.FlowRule.{KeepsAll}
+use Rattle.least.specs.Least.{Variable, name, channel, variableAllowed, memberAllowed, smallest, smallestFlow, smallestComm}
+use Rattle.program.proofs.Test.{and-left, and-right, and-intro, none-least}
+use Rattle.program.specs.Each.{Each, nil, _&_}
+use Rattle.program.proofs.Each.{each-at, each-imp, each-append, each-left}
+use Rattle.least.proofs.Least.{elem-member, value-bound, chan-bound, smallest-keeps, smallest-lies, smallest-allowed}
+use Rattle.least.proofs.Constraints.{Within}
+use Rattle.format.specs.Limits.{rowLimit}
+use Rattle.format.specs.Text.{Bytes}
+use Rattle.format.specs.Document.{Document, Line, flow, comm, claim, member}
+use Rattle.format.specs.Document as document
+use Rattle.format.specs.Print.{formNumbers, rowLines, linesOf, documentText}
+use Rattle.format.specs.Read.{present, rowNumbers, lineNumbers, aboveLimit}
+use Rattle.format.specs.Structure.{flowAllowed, commAllowed, structureFault}
+use Rattle.format.specs.Structure as structure
+use Rattle.format.specs.declared.Refusal.{Refusal}
+use Rattle.format.specs.WellFormed.{orderly, wellFormed}
+use Rattle.format.specs.declared.Reason.the-variants.{FlowRuleFails, ClaimFails, StoreTooShort, StoreEmpty, StoreUnsound}
+use Rattle.format.specs.Refusals.{number, refusal, Result, refused, accepted}
+use Rattle.format.specs.Check.{checkAny}
+use Rattle.format.proofs.Files.{check-any-iff}
+use Rattle.format.proofs.Order.{orderly-iff}
+use Rattle.format.proofs.Rising.{every-append, every-left, every-right, every-head, every-tail}
+use Rattle.format.proofs.Structure.{other-tables}
+use Rattle.calls.specs.declared.LoadAnswer.{LoadAnswer}
+use Rattle.calls.specs.declared.JudgeAnswer.{JudgeAnswer}
+use Rattle.calls.specs.Layout.{memberLimit, rowsSize, setsSize, claimsStart, storeSize, counting, padded, rowBytes, setsBytes, claimCode, encode, decode}
+use Rattle.calls.specs.Judging.{flowTable, commTable, reaches, failingRow, failingClaim, after10, judgeClaims, judgeDocument}
+use Rattle.calls.specs.Calls.{Outcome, isEmpty, unsound, openedFixed, opened, counts, refilled, andThen, judgeAnswered, judge}
+use Rattle.inference.specs.Inference.{abstractOf, tableFlags, entriesOf, smallestDocument, inferred, infer}
+use Rattle.calls.proofs.Codec.{low, all-fit, rows-bytes-length}
+use Rattle.calls.proofs.Codec.Sets.{sets-bytes-length}
+use Rattle.calls.proofs.Canonical.{drop-thrice}
+use Rattle.calls.proofs.Calls.{orderly-of, opened-is, opened-loaded, judge-opened}
+use Rattle.calls.specs.Exact.{RowKeeps}
+use Rattle.calls.proofs.Judging.{row-iff}
+use Rattle.calls.proofs.Canonical.Lists.{every-intro}
+use Rattle.calls.proofs.Canonical.Sets.{sets-rise, flow-lines, comm-lines}
+use Rattle.inference.proofs.Tables.{entries-flags, entries-hold, entries-table}
+
+-- ---- the names and rows of the smallest tables
+
+-- the binders of a row are among its numbers
+form-low : (k : ℕ) (f : Form) → Each (λ n. n < k) (formNumbers f) → Each (λ n. n < k) (bindersOf f)
+unfolding formNumbers
+form-low k Form.Unit h = nil
+form-low k Chan h = nil
+form-low k (Send c m) h = nil
+form-low k (Recv c) h = nil
+form-low k (Pair a b) h = nil
+form-low k (Left a) h = nil
+form-low k (Right a) h = nil
+form-low k (Fun f x t) (i & j & h) = i & j & nil
+form-low k (Spawn t) h = nil
+form-low k (Sync e) h = nil
+form-low k (First a) h = nil
+form-low k (Second a) h = nil
+form-low k (Case s l t r w) (i & j & h & m & n) = j & m & nil
+form-low k (Apply f a) h = nil
+
+binders-low : (x : Row) → Each (λ n. n < rowLimit) (rowNumbers x) → Each (λ n. n < rowLimit) (binders x)
+unfolding rowNumbers binders
+binders-low (Row.Result n) h = nil
+binders-low (Row.Bind b) (i & h) = i & form-low rowLimit (b .form) (each-left (formNumbers (b .form)) (b .rest ∷ []) h)
+
+names-low : (r : ℕ) (p : Program) → So (every (λ l. not (aboveLimit l)) (rowLines r p)) → Each (λ n. n < rowLimit) (collect binders p)
+unfolding rowLines collect
+names-low r [] t = nil
+names-low r (x ∷ p) t = each-append (binders-low x (row-low (low (document.row r x) (every-head _ (document.row r x) (rowLines (suc r) p) t)))) (names-low (suc r) p (every-tail _ (document.row r x) (rowLines (suc r) p) t))
+  where
+    row-low : Each (λ n. n < rowLimit) (lineNumbers (document.row r x)) → Each (λ n. n < rowLimit) (rowNumbers x)
+    row-low h = unfold lineNumbers in tail h
+      where
+        tail : Each (λ n. n < rowLimit) (r ∷ rowNumbers x) → Each (λ n. n < rowLimit) (rowNumbers x)
+        tail (i & h) = h
+
+module _ (d : Document) (well : So (wellFormed d)) where
+  ordered : So (orderly d)
+  ordered = orderly-of d well
+
+  rows-fit : length (d .rows) ≤ rowLimit
+  rows-fit = all-fit d ordered
+
+  rows-low : So (every (λ l. not (aboveLimit l)) (rowLines 0 (d .rows)))
+  unfolding linesOf
+  rows-low = every-left _ (rowLines 0 (d .rows)) _ (orderly-iff d .0 ordered .1 .numbers)
+
+  member-low : (a : Abstract) → So (memberAllowed (d .rows) a) → member a < memberLimit
+  unfolding memberAllowed member
+  member-low u t = omega arith
+  member-low (row r) t = omega (arith, value-bound (d .rows) r t, rows-fit)
+
+  flows-low : (n : ℕ) (a : Abstract) → So (smallestFlow (d .rows) n a) → (n < rowLimit) × (member a < memberLimit)
+  unfolding smallestFlow variableAllowed
+  flows-low n a t =
+      let (q, m) = smallest-allowed (d .rows) (name n) a t in
+      (each-at (names-low 0 (d .rows) rows-low) (elem-member n (collect binders (d .rows)) q), member-low a m)
+
+  comms-low : (c : ℕ) (a : Abstract) → So (smallestComm (d .rows) c a) → (c < rowLimit) × (member a < memberLimit)
+  unfolding smallestComm variableAllowed
+  comms-low c a t =
+      let (q, m) = smallest-allowed (d .rows) (channel c) a t in
+      (omega (arith, chan-bound (d .rows) c q, rows-fit), member-low a m)
+
+  -- the sets of the document are the smallest
+  pub flow-smallest : flowTable (smallestDocument d) ≡ smallestFlow (d .rows)
+  unfolding flowTable smallestDocument
+  flow-smallest = entries-table (smallestFlow (d .rows)) flows-low
+
+  pub comm-smallest : commTable (smallestDocument d) ≡ smallestComm (d .rows)
+  unfolding commTable smallestDocument
+  comm-smallest = entries-table (smallestComm (d .rows)) comms-low
+
+-- ---- the document is well-formed
+
+allowed-number : (p : Program) (m : ℕ) → So (memberAllowed p (abstractOf m)) → So (structure.memberAllowed p m)
+unfolding memberAllowed abstractOf structure.memberAllowed
+allowed-number p zero t = refl
+allowed-number p (suc r) t = t
+
+-- a line whose members a set has
+module _ (p : Program) (q : Variable) where
+  members-allowed : (ms : List ℕ) → So (present ms) → Each (λ m. So (smallest p q (abstractOf m))) ms → So (variableAllowed p q) × So (every (structure.memberAllowed p) ms)
+  members-allowed ms t h = (place ms t h, every-intro (structure.memberAllowed p) (each-imp (λ m k. allowed-number p m (smallest-allowed p q (abstractOf m) k .1)) h))
+    where
+      place : (ms : List ℕ) → So (present ms) → Each (λ m. So (smallest p q (abstractOf m))) ms → So (variableAllowed p q)
+      place [] t nil = absurd (false≢true (unfold present in t))
+      place (m ∷ ms) t (k & h) = smallest-allowed p q (abstractOf m) k .0
+
+flows-allowed : (p : Program) → Each (λ e. So (flowAllowed p e)) (entriesOf (smallestFlow p))
+unfolding flowAllowed smallestFlow variableAllowed
+flows-allowed p = each-imp (λ e (t, h). let (k, m) = members-allowed p (name (e .key)) (e .members) t h in and-intro k m) (entries-hold (smallestFlow p))
+
+comms-allowed : (p : Program) → Each (λ e. So (commAllowed p e)) (entriesOf (smallestComm p))
+unfolding commAllowed smallestComm variableAllowed
+comms-allowed p = each-imp (λ e (t, h). let (k, m) = members-allowed p (channel (e .key)) (e .members) t h in and-intro k m) (entries-hold (smallestComm p))
+
+smallest-orderly : (d : Document) → So (orderly d) → So (orderly (smallestDocument d))
+unfolding smallestDocument entriesOf linesOf
+smallest-orderly d o =
+    let (some-row, partly) = orderly-iff d .0 o in
+    let test : Line → Bool = λ l. not (aboveLimit l) in
+    let rows = rowLines 0 (d .rows) in
+    let flows = map flow (entriesOf (smallestFlow (d .rows))) in
+    let comms = map comm (entriesOf (smallestComm (d .rows))) in
+    let claims = map claim (d .claims) in
+    let later = every-right test rows _ (partly .numbers) in
+    let claims-low = every-right test (map comm (d .comms)) claims (every-right test (map flow (d .flows)) (map comm (d .comms) ++ claims) later) in
+    orderly-iff (smallestDocument d) .1 (
+      some-row,
+      record {
+        numbers = every-append test rows (flows ++ (comms ++ claims)) (every-left test rows _ (partly .numbers)) (every-append test flows (comms ++ claims) (flow-lines _) (every-append test comms claims (comm-lines _) claims-low));
+        flows = sets-rise _;
+        comms = sets-rise _;
+        claims = partly .claims;
+      },
+    )
+
+pub smallest-well : (d : Document) → So (wellFormed d) → So (wellFormed (smallestDocument d))
+unfolding wellFormed smallestDocument
+smallest-well d w =
+    and-intro (smallest-orderly d (and-left (orderly d) _ w))
+    (rw (other-tables d (entriesOf (smallestFlow (d .rows))) (entriesOf (smallestComm (d .rows))) (none-found (structureFault d) (and-right (orderly d) _ w)) (flows-allowed (d .rows)) (comms-allowed (d .rows))))
+  where
+    none-found : (o : Option Refusal) → So (elim o [ none ↦ true | some r ↦ false ]) → o ≡ none
+    none-found none t = refl
+    none-found (some r) t = absurd (false≢true t)
+
+-- ---- the call
+
+-- its bytes: the rows and claims of the document, and the flags of the smallest tables
+pub encode-smallest : (d : Document)
+    → encode (smallestDocument d) ≡ padded rowsSize (collect rowBytes (d .rows)) ++ (tableFlags rowLimit 0 (smallestFlow (d .rows)) ++ (tableFlags rowLimit 0 (smallestComm (d .rows)) ++ counting rowLimit 0 (claimCode (d .claims))))
+unfolding encode smallestDocument
+encode-smallest d = rw (entries-flags (smallestFlow (d .rows)), entries-flags (smallestComm (d .rows)))
+
+-- what comes of a store that opens
+pub record Inferred (store : Bytes) (d d′ : Document) : Type 0 where
+  pub opens : opened (infer store .bytes) ≡ accepted d′
+  -- "The call answers the counts that load would on the outcome's text, were there no length limit"
+  pub answers : infer store .answer ≡ LoadAnswer.Loaded (counts d′)
+  pub loads : checkAny (documentText d′) ≡ accepted d′
+  -- "Rows and claims keep their bytes"
+  pub same-rows : d′ .rows ≡ d .rows
+  pub same-claims : d′ .claims ≡ d .claims
+  -- "They keep every flow rule, and each set lies inside the same set of any other tables that do"
+  pub keeps : KeepsAll (d .rows) (flowTable d′) (commTable d′)
+  pub smallest : (flow comm : Table) → KeepsAll (d .rows) flow comm → Within (flowTable d′) flow × Within (commTable d′) comm
+
+module _ (store : Bytes) (d : Document) (e : opened store ≡ accepted d) where
+  infer-opened : infer store ≡ record { answer = LoadAnswer.Loaded (counts (smallestDocument d)); bytes = encode (smallestDocument d) ++ drop storeSize store }
+  unfolding infer andThen inferred refilled
+  infer-opened = rw e
+
+  pub inferred-is : Inferred store d (smallestDocument d)
+  unfolding smallestDocument
+  inferred-is =
+      let w = opened-is store d e .well in
+      let w′ = smallest-well d w in
+      record {
+        opens = ap (λ (o : Outcome LoadAnswer). opened (o .bytes)) infer-opened ∙ opened-loaded (smallestDocument d) w′ (drop storeSize store);
+        answers = ap (λ (o : Outcome LoadAnswer). o .answer) infer-opened;
+        loads = check-any-iff (documentText (smallestDocument d)) (smallestDocument d) .1 (refl, w′);
+        same-rows = refl;
+        same-claims = refl;
+        keeps = rw (flow-smallest d w, comm-smallest d w) (smallest-keeps (d .rows));
+        smallest = λ flow comm k. rw (flow-smallest d w, comm-smallest d w) (smallest-lies (d .rows) flow comm k);
+      }
+
+  -- judge goes on to the claims
+  pub judge-inferred : judge (infer store .bytes) ≡ judgeAnswered (judgeClaims (smallestDocument d) (failingClaim (smallestDocument d) (reaches (smallestDocument d))))
+  unfolding judgeDocument after10 RowKeeps
+  judge-inferred = judge-opened (infer store .bytes) (smallestDocument d) (inferred-is .opens) ∙ rw (no-row, after10)
+    where
+      no-row : failingRow (smallestDocument d) ≡ none
+      no-row = unfold failingRow in none-least (length (smallestDocument d .rows)) _ (λ r l. rw (row-iff (smallestDocument d) r .1 (λ b q. unfold KeepsAll smallestDocument in inferred-is .keeps r b q)))
+
+-- ---- the bytes of rows and claims
+
+-- the first of four parts, and what comes behind the third
+module _ (rows flows comms claims rest : Bytes) where
+  pub first-part : length rows ≡ rowsSize → take rowsSize ((rows ++ (flows ++ (comms ++ claims))) ++ rest) ≡ rows
+  first-part l = rw append-assoc (take-at rows _ rowsSize l)
+
+  pub last-part : length rows ≡ rowsSize → length flows ≡ setsSize → length comms ≡ setsSize
+      → drop (claimsStart) ((rows ++ (flows ++ (comms ++ claims))) ++ rest) ≡ claims ++ rest
+  last-part l m n =
+      let behind₂ = comms ++ (claims ++ rest) in
+      let behind₁ = flows ++ behind₂ in
+      let joined : (rows ++ (flows ++ (comms ++ claims))) ++ rest ≡ rows ++ behind₁ = simp append-assoc in
+      ap (drop (claimsStart)) joined ∙ sym (drop-thrice rowsSize setsSize setsSize (rows ++ behind₁))
+      ∙ rw (drop-at rows behind₁ rowsSize l, drop-at flows behind₂ setsSize m, drop-at comms (claims ++ rest) setsSize n)
+
+module _ (store : Bytes) (d : Document) (e : opened store ≡ accepted d) where
+  abbrev pub rowsPart : Bytes
+  rowsPart = padded rowsSize (collect rowBytes (d .rows))
+
+  abbrev pub claimsPart : Bytes
+  claimsPart = counting rowLimit 0 (claimCode (d .claims))
+
+  pub rows-size : length rowsPart ≡ rowsSize
+  rows-size = rows-bytes-length d (orderly-of d (opened-is store d e .well))
+
+  pub store-parts : store ≡ (rowsPart ++ (setsBytes (d .flows) ++ (setsBytes (d .comms) ++ claimsPart))) ++ drop storeSize store
+  unfolding encode
+  store-parts = sym (take-append-drop storeSize store) ∙ ap (λ (s : Bytes). s ++ drop storeSize store) (opened-is store d e .holds)
+
+  infer-parts : infer store .bytes ≡ (rowsPart ++ (setsBytes (smallestDocument d .flows) ++ (setsBytes (smallestDocument d .comms) ++ claimsPart))) ++ drop storeSize store
+  unfolding encode smallestDocument
+  infer-parts = ap (λ (o : Outcome LoadAnswer). o .bytes) (infer-opened store d e)
+
+  opened-rows : take rowsSize (infer store .bytes) ≡ take rowsSize store
+  opened-rows =
+      ap (take rowsSize) infer-parts ∙ first-part rowsPart (setsBytes (smallestDocument d .flows)) (setsBytes (smallestDocument d .comms)) claimsPart (drop storeSize store) rows-size
+      ∙ sym (ap (take rowsSize) store-parts ∙ first-part rowsPart (setsBytes (d .flows)) (setsBytes (d .comms)) claimsPart (drop storeSize store) rows-size)
+
+  opened-rest : drop (claimsStart) (infer store .bytes) ≡ drop (claimsStart) store
+  opened-rest =
+      ap (drop (claimsStart)) infer-parts
+      ∙ last-part rowsPart (setsBytes (smallestDocument d .flows)) (setsBytes (smallestDocument d .comms)) claimsPart (drop storeSize store) rows-size (sets-bytes-length (smallestDocument d .flows)) (sets-bytes-length (smallestDocument d .comms))
+      ∙ sym (ap (drop (claimsStart)) store-parts ∙ last-part rowsPart (setsBytes (d .flows)) (setsBytes (d .comms)) claimsPart (drop storeSize store) rows-size (sets-bytes-length (d .flows)) (sets-bytes-length (d .comms)))
+
+-- ---- a store of any bytes
+
+-- a store that does not open stays as it was
+pub infer-refused : (store : Bytes) (r : Refusal) → opened store ≡ refused r → infer store ≡ record { answer = LoadAnswer.Refused r; bytes = store }
+unfolding infer andThen inferred
+infer-refused store r e = rw e
+
+-- by whether the store opens
+cases : {P : Type 0} (x : Result Document) → ((r : Refusal) → x ≡ refused r → P) → ((d : Document) → x ≡ accepted d → P) → P
+cases (refused r) f g = f r refl
+cases (accepted d) f g = g d refl
+
+module _ (store : Bytes) where
+  pub rows-kept : take rowsSize (infer store .bytes) ≡ take rowsSize store
+  rows-kept = cases (opened store) (λ r e. ap (λ (o : Outcome LoadAnswer). take rowsSize (o .bytes)) (infer-refused store r e)) (opened-rows store)
+
+  pub rest-kept : drop (claimsStart) (infer store .bytes) ≡ drop (claimsStart) store
+  rest-kept = cases (opened store) (λ r e. ap (λ (o : Outcome LoadAnswer). drop (claimsStart) (o .bytes)) (infer-refused store r e)) (opened-rest store)
+
+  -- 20, 21 and 22
+  state-refusal : (r : Refusal) → opened store ≡ refused r → 20 ≤ number (r .reason)
+  unfolding opened openedFixed number
+  state-refusal r e = go (ltb (length store) storeSize) (isEmpty (take storeSize store)) (unsound (take storeSize store)) e
+    where
+      go : (a b c : Bool) → _≡_ {A = Result Document} (elim a [
+        | true ↦ refused (refusal StoreTooShort 0)
+        | false ↦ elim b [ true ↦ refused (refusal StoreEmpty 0) | false ↦ elim c [ true ↦ refused (refusal StoreUnsound 0) | false ↦ accepted (decode (take storeSize store)) ] ]
+      ]) (refused r) → 20 ≤ number (r .reason)
+      go true b c h = let q : refusal StoreTooShort 0 ≡ r = cc in rw (← q) (lit≤ tt)
+      go false true c h = let q : refusal StoreEmpty 0 ≡ r = cc in rw (← q) (lit≤ tt)
+      go false false true h = let q : refusal StoreUnsound 0 ≡ r = cc in rw (← q) (lit≤ tt)
+      go false false false h = let z : _≡_ {A = ℕ} 0 1 = cc in absurd (omega arith)
+
+  -- "Judge never answers 10 on the outcome"
+  pub never-10 : (line : ℕ) → judge (infer store .bytes) ≢ JudgeAnswer.Refused (refusal FlowRuleFails line)
+  unfolding judge andThen judgeAnswered number
+  never-10 line h = cases (opened store) (λ r e.
+      let q : judge store ≡ JudgeAnswer.Refused r = rw e in
+      let k : judge store ≡ JudgeAnswer.Refused (refusal FlowRuleFails line) = ap (λ (o : Outcome LoadAnswer). judge (o .bytes)) (sym (infer-refused store r e)) ∙ h in
+      let s : r ≡ refusal FlowRuleFails line = cc in
+      let z : number (r .reason) ≡ 10 = rw s in
+      omega (arith, state-refusal r e)) (λ d e. go (smallestDocument d) (failingClaim (smallestDocument d) (reaches (smallestDocument d))) (sym (judge-inferred store d e) ∙ h))
+    where
+      go : (d : Document) (o : Option ℕ) → judgeAnswered (judgeClaims d o) ≡ JudgeAnswer.Refused (refusal FlowRuleFails line) → ⊥
+      go d none h = let z : _≡_ {A = ℕ} 0 1 = unfold judgeClaims in cc in omega arith
+      go d (some l) h = let q : refusal ClaimFails l ≡ refusal FlowRuleFails line = unfold judgeClaims in cc in let z : number ClaimFails ≡ number FlowRuleFails = ap (λ (r : Refusal). number (r .reason)) q in omega arith

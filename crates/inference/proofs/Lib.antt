@@ -1,0 +1,3 @@
+-- What infer gives: `Inference`.
+pub mod Tables
+pub mod Inference

@@ -1,0 +1,46 @@
+-- No. 1, "The smallest tables from the program alone", as a call: the answer and the lent bytes afterwards, as a function of the store.
+--   infer   `opened` of calls, then `smallestDocument`, then `encode`   (20, 21, 22)
+-- The contract of the public function is equality with `infer`, by `Leaves` of calls.
+use Prim.Native.Nat.{ℕ, zero, suc}
+use mathlib.Core.List.{List}
+use Rattle.program.specs.Test.{pick}
+use Rattle.program.specs.Each.{collect}
+use Rattle.program.specs.Flow.{Abstract, u, row, Set, Table}
+use Rattle.least.specs.Least.{smallestFlow, smallestComm}
+use Rattle.format.specs.Limits.{rowLimit}
+use Rattle.format.specs.Text.{Bytes}
+use Rattle.format.specs.Refusals.{Result, refused, accepted}
+use Rattle.format.specs.Document.{Entry, Document, withTables}
+use Rattle.calls.specs.declared.LoadAnswer.{LoadAnswer}
+use Rattle.calls.specs.Layout.{memberLimit, counting, encode, decodeSets}
+use Rattle.calls.specs.Calls.{Outcome, opened, counts, refilled, andThen}
+
+-- unit is member 0, row r is member r + 1
+unfoldable pub abstractOf : ℕ → Abstract
+abstractOf zero = u
+abstractOf (suc r) = row r
+
+-- a byte for each member
+unfoldable pub setFlags : Set → Bytes
+setFlags s = counting memberLimit 0 λ m. pick (s (abstractOf m)) 1 0
+
+-- the sets of k names or channel rows from n on
+unfoldable pub tableFlags : ℕ → ℕ → Table → Bytes
+tableFlags k n t = collect (λ n. setFlags (t n)) (counting k n λ n. n)
+
+-- the lines of a table: a name or channel row with nothing has no line
+unfoldable pub entriesOf : Table → List Entry
+entriesOf t = decodeSets rowLimit 0 (tableFlags rowLimit 0 t)
+
+-- the document with the smallest tables of its program in the place of its own
+unfoldable pub smallestDocument : Document → Document
+smallestDocument d = withTables d (entriesOf (smallestFlow (d .rows))) (entriesOf (smallestComm (d .rows)))
+
+-- "Rows and claims keep their bytes"; a refused call alters nothing
+unfoldable pub inferred : Bytes → Result Document → Outcome LoadAnswer
+inferred store (refused r) = record { answer = LoadAnswer.Refused r; bytes = store }
+inferred store (accepted d) = record { answer = LoadAnswer.Loaded (counts d); bytes = refilled store (encode d) }
+
+-- "Given a loaded store, the checker shall put in its own flow and comm sets, whatever was there before"; "The call answers the counts that load would"
+unfoldable pub infer : Bytes → Outcome LoadAnswer
+infer store = inferred store (andThen (opened store) λ d. accepted (smallestDocument d))

@@ -1,0 +1,2 @@
+-- The call infer.
+pub mod Inference

@@ -1,0 +1,2 @@
+-- The smallest tables of a program.
+pub mod Least
