@@ -11,14 +11,14 @@ ghost use Rattle.tables.specs.Tables.{storeFlow, storeComm};
 ghost use Rattle.sets.specs.Sets.{Sized, setOf, partAt, within, liesBelow, unlessIn};
 
 // The byte of a member in a set, or 0 where another set has it too.
-fn unless_in(a: u8, b: u8) -> u8
+pub fn unless_in(a: u8, b: u8) -> u8
     ensures { λ m. ⌜ m ≡ unlessIn a b ⌝ }
 {
     if b == 0 { a } else { 0 }
 }
 
 // The larger number.
-fn larger(a: u8, b: u8) -> u8
+pub fn larger(a: u8, b: u8) -> u8
     ensures { λ m. ⌜ m ≡ max a b ⌝ }
 {
     if a < b { b } else { a }

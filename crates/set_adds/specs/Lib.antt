@@ -1,0 +1,2 @@
+-- What a change adds to the sets of a store.
+pub mod Adding
