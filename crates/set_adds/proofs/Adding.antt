@@ -300,3 +300,12 @@ adds-next rows k rule {s₀} few h g =
     let e = program-stays rows few h in
     rw add-one (adds-both _ (λ flow comm. all k (λ i. rule (storeProgram rows s₀) i flow comm)) (rule (storeProgram rows s₀) k)
     (λ flow comm t. (and-right (rule (storeProgram rows s₀) k flow comm) _ t, and-left _ _ t)) (λ flow comm t i. and-intro i t) h (rw e at g))
+
+-- the same rule in other words
+pub adds-as : (rule rule′ : Rule) {s s′ : Bytes} {more : Bool} → ((flow comm : Table) → rule flow comm ≡ rule′ flow comm) → Adds rule s s′ more → Adds rule′ s s′ more
+adds-as rule rule′ {s} {s′} {more} e h = subst (λ (r : Rule). Adds r s s′ more) (fun-ext λ flow. fun-ext λ comm. e flow comm) h
+
+-- two changes, the second by the program as it stands then
+pub adds-after : (rows : ℕ) {first : Rule} (second : Program → Rule) {s₀ s₁ s₂ : Bytes} {a b : Bool} → rows ≤ rowLimit
+    → Adds first s₀ s₁ a → Adds (second (storeProgram rows s₁)) s₁ s₂ b → Adds (λ flow comm. first flow comm && second (storeProgram rows s₀) flow comm) s₀ s₂ (a || b)
+adds-after rows second few h k = adds-then h (rw (program-stays rows few h) at k)

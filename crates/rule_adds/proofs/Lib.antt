@@ -1,0 +1,2 @@
+-- Laws of the rules that are followed.
+pub mod Asking

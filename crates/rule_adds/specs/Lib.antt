@@ -1,0 +1,2 @@
+-- The rules that are followed.
+pub mod Rules

@@ -1,0 +1,3 @@
+-- Laws of rounds over the rows.
+pub mod Rows
+pub mod Settling

@@ -1,0 +1,2 @@
+-- The smallest tables in a store.
+pub mod Smallest

@@ -1,0 +1,2 @@
+-- Laws of the rule of a sync.
+pub mod Syncing

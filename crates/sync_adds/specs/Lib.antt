@@ -1,0 +1,2 @@
+-- The rule of a sync.
+pub mod Syncs
