@@ -1,0 +1,2 @@
+-- The counts of a store.
+pub mod Counting
