@@ -9,7 +9,7 @@ use Rattle.calls.specs.declared.LoadAnswer.{LoadAnswer}
 use Rattle.calls.specs.declared.JudgeAnswer.{JudgeAnswer}
 use Rattle.calls.specs.Answers.{refusalAnswer, loadAnswer, judgeAnswer}
 use Rattle.calls.specs.Calls.{Leaves, unaltered, load, judge}
-use Rattle.checker.proofs.Promises.{sound}
+use Rattle.demands.proofs.Promises.{sound}
 use Rattle.acceptance.specs.Accepting.{ClaimsFit, SoundFile, judgedAfter, Accepts}
 
 module _ (file store : Bytes) {left : Bytes} where

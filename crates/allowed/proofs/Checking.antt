@@ -22,7 +22,7 @@ use Rattle.calls.specs.Layout.{memberLimit, rowsSize, withEntry, decodeSets, de
 use Rattle.calls.proofs.Codec.Sparse.{either}
 use Rattle.store.specs.Rows.{storeProgram}
 use Rattle.store.proofs.Laws.{program-length}
-use Rattle.calls.proofs.Bounds.{sets-few}
+use Rattle.bounds.proofs.Bounds.{sets-few}
 use Rattle.store.specs.Document.{storeDocument}
 use Rattle.store.proofs.Document.{rows-are, flows-are, comms-are, claims-are}
 use Rattle.store.proofs.Claims.{claimsOn, claims-next}

@@ -53,7 +53,8 @@ load-long file store l = rw (le-ltb (length store) storeSize l, load)
 
 pub load-refused : (file store : Bytes) (r : Refusal) → load file store .answer ≡ LoadAnswer.Refused r → storeSize ≤ length store
     → load file store .bytes ≡ replicate storeSize 0 ++ drop storeSize store
-load-refused file store r e l = rw (load-long file store l) (go (check file) (ap (λ (o : Outcome LoadAnswer). o .answer) (sym (load-long file store l)) ∙ e))
+load-refused file store r e l =
+    ap (λ (o : Outcome LoadAnswer). o .bytes) (load-long file store l) ∙ go (check file) (ap (λ (o : Outcome LoadAnswer). o .answer) (sym (load-long file store l)) ∙ e)
   where
     go : (x : Result Document) → loaded store x .answer ≡ LoadAnswer.Refused r → loaded store x .bytes ≡ replicate storeSize 0 ++ drop storeSize store
     go (refused q) h = unfold loaded refilled in refl

@@ -47,6 +47,13 @@ unfolding isEmpty every
 zeros-empty zero = refl
 zeros-empty (suc n) = zeros-empty n
 
+-- both of any length: at the store's size the prover would write the zeros out
+all-zeros : (n : ℕ) (bs : Bytes) → length bs ≡ n → isEmpty bs ≡ true → bs ≡ replicate n 0
+all-zeros n bs l e = rw (← l) (zeros bs e)
+
+not-zeros : (n : ℕ) (bs : Bytes) → isEmpty bs ≡ false → bs ≡ replicate n 0 → ⊥
+not-zeros n bs e z = false≢true (sym e ∙ ap isEmpty z ∙ zeros-empty n)
+
 -- ---- an answer's values tell its case
 
 pub judge-accepted : (a : JudgeAnswer) (n : ℕ) → judgeAnswer a ≡ answered (n ∷ []) → a ≡ JudgeAnswer.Accepted n
@@ -90,11 +97,11 @@ module _ (store : Bytes) where
           let same : refusal StoreEmpty 0 ≡ r = cc in
           let l = ltb-false (length store) storeSize p in
           let size : length (take storeSize store) ≡ storeSize = length-take-le storeSize store l in
-          subst (λ (x : Refusal). Closed store (refusalAnswer x)) same (Closed.empty l (zeros (take storeSize store) q ∙ ap (λ (n : ℕ). replicate n 0) size))
+          subst (λ (x : Refusal). Closed store (refusalAnswer x)) same (Closed.empty l (all-zeros storeSize (take storeSize store) size q))
       go false false true p q s h =
           let same : refusal StoreUnsound 0 ≡ r = cc in
           subst (λ (x : Refusal). Closed store (refusalAnswer x)) same (Closed.unsound (ltb-false (length store) storeSize p)
-          (λ z. false≢true (sym q ∙ ap isEmpty z ∙ zeros-empty storeSize))
+          (not-zeros storeSize (take storeSize store) q)
           (λ (d, k). false≢true (sym (unsound-iff (take storeSize store) .1 (d, holds-well d k, sym (k .bytes))) ∙ s)))
       go false false false p q s h = let z : _≡_ {A = ℕ} 0 1 = cc in absurd (omega arith)
 

@@ -5,6 +5,3 @@ pub mod Judging
 pub mod Calls
 pub mod Exact
 pub mod Numbers
-pub mod Bounds
-pub mod Report
-pub mod Demands

@@ -3,6 +3,5 @@ pub mod Layout
 pub mod Answers
 pub mod Judging
 pub mod Calls
-pub mod Report
 pub mod Exact
 pub mod Canonical

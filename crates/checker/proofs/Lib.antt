@@ -1,4 +1,3 @@
--- Laws that the proofs of the calls share, and `Promises`: the demands, of the functions.
+-- Laws that the proofs of the calls share.
 pub mod Texts
 pub mod Judges
-pub mod Promises

@@ -18,13 +18,13 @@ use Rattle.calls.specs.Answers.{Answer, turnedBack, answered, refusalAnswer, lo
 use Rattle.calls.specs.Layout.{storeSize, decode}
 use Rattle.calls.specs.Canonical.{countRows}
 use Rattle.calls.specs.Calls.{opened, andThen, load, judge, verdict, written, write}
-use Rattle.calls.specs.Report.{report, reportLimit, Reporting, reported}
+use Rattle.report.specs.Report.{report, reportLimit, Reporting, reported}
 use Rattle.calls.proofs.Canonical.Rows.{count-rows-le}
 use Rattle.calls.proofs.Codec.Sparse.{either}
-use Rattle.calls.proofs.Bounds.{Within, line-within, values-within, OpensTo, not-opened, decoded, opens-to, load-within, judge-within, verdict-within, four-words}
+use Rattle.bounds.proofs.Bounds.{Within, line-within, values-within, OpensTo, not-opened, decoded, opens-to, load-within, judge-within, verdict-within, four-words}
 use Rattle.store.specs.Document.{storeDocument}
 use Rattle.store.proofs.Document.{document-is}
-use Rattle.calls.proofs.Report.{report-short}
+use Rattle.report.proofs.Report.{report-short}
 use Rattle.writing.proofs.Bounds.{stored-bound}
 use Rattle.packing.specs.Packing.{packed, countBits, wordBits, numberBits, Short, Lossless}
 use Rattle.packing.proofs.Unpacking.{unpacked, load-back, judge-back, verdict-back, write-back}

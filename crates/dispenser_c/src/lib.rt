@@ -3,7 +3,7 @@ use store::Store;
 ghost use mathlib.Core.Path.{_≡_};
 ghost use Rattle.calls.specs.Layout.{storeSize};
 ghost use Rattle.calls.specs.Calls.{load, judge, verdict, write};
-ghost use Rattle.calls.specs.Report.{reportLimit, reported};
+ghost use Rattle.report.specs.Report.{reportLimit, reported};
 ghost use Rattle.calls.specs.Answers.{loadAnswer, judgeAnswer, verdictAnswer, writeAnswer};
 ghost use Rattle.packing.specs.Packing.{packed, countBits, wordBits, numberBits};
 

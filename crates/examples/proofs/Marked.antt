@@ -29,7 +29,7 @@ use Rattle.calls.specs.Answers
 use Rattle.calls.specs.Answers.{Answer, turnedBack, answered}
 use Rattle.calls.specs.Judging
 use Rattle.calls.specs.Calls
-use Rattle.calls.specs.Report
+use Rattle.report.specs.Report
 
 -- lines, each ended by byte 10
 file : List String → Text.Bytes

@@ -29,7 +29,7 @@ use Rattle.calls.specs.Canonical.{countRows}
 use Rattle.calls.specs.Judging.{flowTable, commTable, wordHolds, reaches, failingRow, failingClaim, after10, judgeClaims, judgeDocument, verdictDocument, verdictWords}
 use Rattle.calls.specs.Calls.{judgeAnswered, noVerdict, verdictGiven, verdictOf}
 use Rattle.calls.proofs.Canonical.Rows.{count-rows-le}
-use Rattle.calls.proofs.Bounds.{sets-few}
+use Rattle.bounds.proofs.Bounds.{sets-few}
 use Rattle.store.specs.Rows.{storeProgram, rowOr}
 use Rattle.store.proofs.Laws.{program-length}
 use Rattle.store.specs.Document.{storeDocument}

@@ -3,7 +3,7 @@ use format::Refusal;
 ghost use mathlib.Core.List.{[], _∷_};
 ghost use Prim.Native.Nat.{_<_};
 ghost use Rattle.write_text.specs.Write.{Room, Wrote};
-ghost use Rattle.calls.specs.Report.{refusedText, acceptedText, yesNoText, wordsText, channelText};
+ghost use Rattle.report.specs.Report.{refusedText, acceptedText, yesNoText, wordsText, channelText};
 
 // Writes `[refused NUMBER LINE]`.
 pub fn put_refused(out: &mut [u8], at: usize, refusal: Refusal) -> usize

@@ -24,10 +24,10 @@ use Rattle.calls.specs.Layout.{storeSize, decode}
 use Rattle.calls.specs.Canonical.{countRows}
 use Rattle.calls.specs.Judging.{judgeDocument}
 use Rattle.calls.specs.Calls.{opened, load, judgeAnswered, judge}
-use Rattle.calls.specs.Report.{refusedText, acceptedText, channelLines, judgedText, checkedText, report, reportLimit, LeavesReport, reported}
-use Rattle.calls.proofs.Bounds.{Within, line-within, values-within, OpensTo, not-opened, decoded, opens-to, lastLine, load-within, judge-within}
+use Rattle.report.specs.Report.{refusedText, acceptedText, channelLines, judgedText, checkedText, report, reportLimit, LeavesReport, reported}
+use Rattle.bounds.proofs.Bounds.{Within, line-within, values-within, OpensTo, not-opened, decoded, opens-to, lastLine, load-within, judge-within}
 use Rattle.calls.proofs.Calls.{loaded-is, opened-loaded, judge-opened}
-use Rattle.calls.proofs.Report.{loadText, refused-short, judged-short, report-short, report-calls}
+use Rattle.report.proofs.Report.{loadText, refused-short, judged-short, report-short, report-calls}
 use Rattle.write_text.specs.Write.{Room, Wrote}
 use Rattle.write_text.proofs.Progress.{at-head}
 use Rattle.opening.specs.declared.Opened.{Opened}

@@ -13,7 +13,7 @@ use Rattle.format.specs.Text.{Bytes}
 use Rattle.calls.specs.Layout.{counting, decode}
 use Rattle.calls.specs.Canonical.{countRows}
 use Rattle.calls.specs.Judging.{verdictWords, wordHolds, reaches}
-use Rattle.calls.specs.Report.{channelText, channelLine, channelLines}
+use Rattle.report.specs.Report.{channelText, channelLine, channelLines}
 use Rattle.store.specs.Rows.{storeProgram}
 use Rattle.store.proofs.Laws.{program-length}
 use Rattle.store.proofs.Document.{rows-decode, flow-is}

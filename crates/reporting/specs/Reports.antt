@@ -3,7 +3,7 @@ use Prim.Native.Nat.{ℕ}
 use mathlib.Core.Path.{_≡_}
 use Rattle.format.specs.Text.{Bytes}
 use Rattle.calls.specs.Calls.{load}
-use Rattle.calls.specs.Report.{report}
+use Rattle.report.specs.Report.{report}
 use Rattle.write_text.specs.Write.{Wrote}
 
 -- the report is written at the head of out, and the store is as load leaves it

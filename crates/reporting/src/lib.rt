@@ -18,7 +18,7 @@ ghost use Rattle.format.specs.Limits.{rowLimit};
 ghost use Rattle.calls.specs.Layout.{storeSize, decode};
 ghost use Rattle.calls.specs.Canonical.{countRows};
 ghost use Rattle.calls.specs.Calls.{opened};
-ghost use Rattle.calls.specs.Report.{channelLine, channelLines, checkedText, report, reportLimit, LeavesReport, reported};
+ghost use Rattle.report.specs.Report.{channelLine, channelLines, checkedText, report, reportLimit, LeavesReport, reported};
 ghost use Rattle.write_text.specs.Write.{Room, Wrote};
 ghost use Rattle.store.specs.Rows.{storeProgram};
 ghost use Rattle.tables.specs.Tables.{storeFlow};

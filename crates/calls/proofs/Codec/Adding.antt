@@ -298,34 +298,45 @@ module _ (d : Document) (fit : length (d .rows) ≤ rowLimit) where
 
 -- ---- nothing read: every byte is 0
 
-zeros : (z : Bytes) (n i : ℕ) → z ≡ replicate memberLimit 0 → chunks (λ k. z) n i ≡ replicate (n * memberLimit) 0
+zeros : (g : ℕ → Bytes) (n i : ℕ) → ((k : ℕ) → g k ≡ replicate memberLimit 0) → chunks g n i ≡ replicate (n * memberLimit) 0
 unfolding chunks collect counting
-zeros z zero i e = refl
-zeros z (suc n) i e =
+zeros g zero i e = refl
+zeros g (suc n) i e =
     let q : suc n * memberLimit ≡ memberLimit + n * memberLimit = omega arith in
-    ap (λ (l : Bytes). z ++ l) (zeros z n (suc i) e) ∙ ap (λ (l : Bytes). l ++ replicate (n * memberLimit) 0) e ∙ replicate-append-replicate memberLimit (n * memberLimit) 0
+    ap (λ (l : Bytes). g i ++ l) (zeros g n (suc i) e) ∙ ap (λ (l : Bytes). l ++ replicate (n * memberLimit) 0) (e i) ∙ replicate-append-replicate memberLimit (n * memberLimit) 0
     ∙ ap (λ (k : ℕ). replicate k 0) (sym q)
 
-no-flags : flagsOf [] ≡ replicate memberLimit 0
-unfolding flagsOf
-no-flags = flags-none memberLimit 0
+no-flags : (n : ℕ) → flagsOf (membersAt [] n) ≡ replicate memberLimit 0
+unfolding flagsOf membersAt
+no-flags n = flags-none memberLimit 0
 
 no-sets : setsBytes [] ≡ replicate setsSize 0
-unfolding setsBytes chunks membersAt
-no-sets = zeros (flagsOf []) rowLimit 0 no-flags
+unfolding setsBytes chunks
+no-sets = zeros (λ n. flagsOf (membersAt [] n)) rowLimit 0 no-flags
 
 claims-none : (n i : ℕ) → counting n i (claimCode []) ≡ replicate n 0
 unfolding counting claimCode
 claims-none zero i = refl
 claims-none (suc n) i = ap (λ (l : Bytes). 0 ∷ l) (claims-none n (suc i))
 
+-- of any length: at the sizes of the store the prover would write the zeros out
+padded-none : (n : ℕ) → padded n [] ≡ replicate n 0
+unfolding padded
+padded-none n =
+    let e : n - 0 ≡ n = omega arith in
+    ap (λ (k : ℕ). replicate k 0) e
+
+zeros-joined : (a b c d n : ℕ) (p q r s : Bytes) → a + (b + (c + d)) ≡ n → p ≡ replicate a 0 → q ≡ replicate b 0 → r ≡ replicate c 0 → s ≡ replicate d 0
+    → p ++ (q ++ (r ++ s)) ≡ replicate n 0
+zeros-joined a b c d n p q r s e first second third fourth =
+    rw (first, second, third, fourth)
+    (ap (λ (l : Bytes). replicate a 0 ++ (replicate b 0 ++ l)) (replicate-append-replicate c d 0) ∙ ap (λ (l : Bytes). replicate a 0 ++ l) (replicate-append-replicate b (c + d) 0)
+    ∙ replicate-append-replicate a (b + (c + d)) 0 ∙ ap (λ (k : ℕ). replicate k 0) e)
+
 no-rows : padded rowsSize (collect rowBytes []) ≡ replicate rowsSize 0
-unfolding padded collect
-no-rows = refl
+unfolding collect
+no-rows = padded-none rowsSize
 
 pub encode-none : encode noLines ≡ replicate storeSize 0
 unfolding encode noLines
-encode-none =
-    rw (no-rows, no-sets, claims-none rowLimit 0)
-    (ap (λ (l : Bytes). replicate rowsSize 0 ++ (replicate setsSize 0 ++ l)) (replicate-append-replicate setsSize rowLimit 0)
-    ∙ ap (λ (l : Bytes). replicate rowsSize 0 ++ l) (replicate-append-replicate setsSize (setsSize + rowLimit) 0) ∙ replicate-append-replicate rowsSize (setsSize + (setsSize + rowLimit)) 0)
+encode-none = zeros-joined rowsSize setsSize setsSize rowLimit storeSize _ _ _ _ refl no-rows no-sets no-sets (claims-none rowLimit 0)

@@ -3,7 +3,7 @@ use borrow.Author.Needs.{needs}
 use mathlib.Core.Path.{refl, ap, _∙_}
 use Rattle.calls.specs.declared.VerdictAnswer.{VerdictAnswer}
 use Rattle.calls.specs.Answers.{verdictAnswer}
-use Rattle.calls.proofs.Bounds.{four-words}
+use Rattle.bounds.proofs.Bounds.{four-words}
 use Rattle.packing.specs.Packing.{packed, wordBits}
 use Rattle.dispenser_c.proofs.Bounds.{verdict-lossless}
 use Rattle.dispenser_c.proofs.dispenser_verdict.Statement.{statement}

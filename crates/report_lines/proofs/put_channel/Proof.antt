@@ -2,7 +2,7 @@
 use Rattle.format.specs.Text.{ascii}
 use Rattle.write_text.proofs.Writing.{then, room-first, room-then}
 use Rattle.write_text.proofs.Head.{room-head, room-behind, then-behind}
-use Rattle.calls.specs.Report.{channelText}
+use Rattle.report.specs.Report.{channelText}
 use borrow.Author.Needs.{needs}
 use Rattle.report_lines.proofs.put_channel.Statement.{statement}
 use Rattle.report_lines.proofs.put_channel.Tie as tie

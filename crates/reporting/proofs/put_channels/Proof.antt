@@ -3,7 +3,7 @@ use Prim.Native.Nat.{_≤_, _-_}
 use native.Mathlib.Omega.{arith}
 use Rattle.program.specs.Each.{collect}
 use Rattle.calls.specs.Layout.{decode}
-use Rattle.calls.specs.Report.{channelLine, channelLines}
+use Rattle.report.specs.Report.{channelLine, channelLines}
 use Rattle.write_text.proofs.Writing.{room-first}
 use Rattle.write_text.proofs.Progress.{Progress, begin, same-rest, room-left, onward, finished, kept}
 use Rattle.reporting.proofs.Rows.{rowsFrom, rows-next, rows-end, lines-are}

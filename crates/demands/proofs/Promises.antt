@@ -1,5 +1,5 @@
--- The demands, of the functions. What each is given here of load, judge, verdict and write is the `ensures` of that function in src/lib.rt, word for word:
--- the answer and the lent bytes are those of its definition. So what is proved of the definitions (calls: Demands) holds of the functions.
+-- The demands, of the functions. What each is given here of load, judge, verdict and write is the `ensures` of that function of crate checker, word for word:
+-- the answer and the lent bytes are those of its definition. So what is proved of the definitions (`Demands`) holds of the functions.
 use Prim.Native.Nat.{ℕ, _≤_, _<_}
 use mathlib.Core.Bool.{So}
 use mathlib.Core.List.{List, [], _∷_, _++_}
@@ -24,7 +24,7 @@ use Rattle.calls.specs.Answers.{turnedBack, answered, loadAnswer, judgeAnswer, 
 use Rattle.calls.specs.Layout.{storeSize}
 use Rattle.calls.specs.Calls.{Leaves, unaltered, load, judge, verdict, write}
 use Rattle.calls.specs.Exact.{StoreHolds, RulesHold, ClaimsHold, JudgeIs, VerdictIs}
-use Rattle.calls.proofs.Demands as definitions
+use Rattle.demands.proofs.Demands as definitions
 
 -- a load
 module _ (file store : Bytes) {answer : LoadAnswer} {left : Bytes} (loads : Leaves (load file store) answer left) where

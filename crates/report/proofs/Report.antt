@@ -22,21 +22,21 @@ use Rattle.format.specs.Structure.{rowLine}
 use Rattle.format.specs.WellFormed.{orderly, wellFormed}
 use Rattle.format.specs.Check.{check}
 use Rattle.format.proofs.Files.{check-iff}
 use Rattle.calls.specs.declared.LoadAnswer.{LoadAnswer}
 use Rattle.calls.specs.declared.LoadAnswer.the-variants as load
 use Rattle.calls.specs.declared.JudgeAnswer.{JudgeAnswer}
 use Rattle.calls.specs.declared.JudgeAnswer.the-variants as judge
 use Rattle.calls.specs.declared.VerdictStatus.{VerdictStatus}
 use Rattle.calls.specs.declared.VerdictStatus.the-variants as verdict
 use Rattle.calls.specs.declared.VerdictAnswer.{VerdictAnswer}
 use Rattle.calls.specs.Layout.{storeSize, counting, encode, decode}
 use Rattle.calls.specs.Judging.{verdictWords, wordHolds, reaches, failingRow, failingClaim, after10, judgeClaims, judgeDocument, verdictDocument}
 use Rattle.calls.specs.Calls.{opened, counts, refilled, loaded, load, judgeAnswered, andThen, judge, verdictOf, verdictGiven, verdict}
-use Rattle.calls.specs.Report.{refusedText, acceptedText, yesNoText, moreWordsText, wordsText, channelText, channelLine, channelLines, judgedText, checkedText, report, reportLimit}
+use Rattle.report.specs.Report.{refusedText, acceptedText, yesNoText, moreWordsText, wordsText, channelText, channelLine, channelLines, judgedText, checkedText, report, reportLimit}
 use Rattle.calls.proofs.Codec.{decode-encode}
 use Rattle.calls.proofs.Codec.Sparse.{either}
 use Rattle.calls.proofs.Canonical.Rows.{count-rows-le, rows-count}
 use Rattle.calls.proofs.Calls.{opened-loaded, judge-opened}
 
 -- ---- how long lines are
 

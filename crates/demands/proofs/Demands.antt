@@ -1,5 +1,5 @@
--- The demands, as theorems about the definitions of the calls, in document 01's numbers and values (specs/Answers). Their proofs stand in `Calls`, `Exact` and `Numbers`
--- beside this file; here is what they say.
+-- The demands, as theorems about the definitions of the calls, in document 01's numbers and values (`Answers` of crate calls). Their proofs stand in `Calls`, `Exact` and
+-- `Numbers` of crate calls; here is what they say.
 use Prim.Native.Nat.{ℕ, _≤_, _<_}
 use mathlib.Core.Bool.{false, So}
 use mathlib.Core.List.{List, [], _∷_, _++_}

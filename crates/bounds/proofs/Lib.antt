@@ -1,0 +1,2 @@
+-- How large an answer can be.
+pub mod Bounds

@@ -1,0 +1,3 @@
+-- The demands, of the definitions and of the functions.
+pub mod Demands
+pub mod Promises

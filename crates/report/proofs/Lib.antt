@@ -1,0 +1,2 @@
+-- Theorems about the report.
+pub mod Report

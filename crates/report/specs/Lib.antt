@@ -1,0 +1,2 @@
+-- The text of a file's report.
+pub mod Report
