@@ -81,7 +81,7 @@ module _ (store : Bytes) where
             let whole : store ≡ encode d ++ drop storeSize store = sym (take-append-drop storeSize store) ∙ ap (λ (x : Bytes). x ++ drop storeSize store) (h .bytes) in
             ap opened whole ∙ opened-loaded d (holds-well h) (drop storeSize store)
 
-  closed-is : (r : Refusal) → opened store ≡ refused r → Closed store (refusalAnswer r)
+  pub closed-is : (r : Refusal) → opened store ≡ refused r → Closed store (refusalAnswer r)
   unfolding opened openedFixed refusalAnswer number
   closed-is r e = go (ltb (length store) storeSize) (isEmpty (take storeSize store)) (unsound (take storeSize store)) refl refl refl e
     where

@@ -1,14 +1,13 @@
--- No. 1: the store with the smallest tables opens again, keeps its rows and claims, keeps every flow rule, and its tables lie in all that do.
+-- Infer is as specs/Inferred says: the store with the smallest tables opens again, keeps its rows and claims, keeps every flow rule, and its tables lie in all that do.
 use Prim.Native.Nat.{ℕ, zero, suc, _+_, _≤_, _<_}
 use native.Mathlib.Omega.{arith}
 use mathlib.Core.Bool.{Bool, true, false, not, So, false≢true}
 use mathlib.Core.List.{List, [], _∷_, _++_, map, append-assoc}
 use mathlib.Core.Option.{Option, none, some}
-use mathlib.Core.Path.{_≡_, refl, sym, ap, _∙_}
+use mathlib.Core.Path.{_≡_, refl, sym, ap, _∙_, subst}
 use mathlib.Core.Logic.{_≢_}
 use lib.ListN.{length, take, drop, take-append-drop}
 use lib.Seq.{take-at, drop-at}
-use lib.Dec.{ltb, lit≤}
 use Rattle.program.specs.declared.Row.{Row}
 use Rattle.program.specs.declared.Form.{Form}
 use Rattle.program.specs.declared.Form.the-variants.{Chan, Send, Recv, Pair, Left, Right, Fun, Spawn, Sync, First, Second, Case, Apply}
@@ -17,40 +16,37 @@ use Rattle.program.specs.Program.{Program, bindersOf, binders}
 use Rattle.program.specs.Flow.{Abstract, u, row, Table}
 use Rattle.program.specs.FlowRule.{KeepsAll}
 use Rattle.least.specs.Least.{Variable, name, channel, variableAllowed, memberAllowed, smallest, smallestFlow, smallestComm}
-use Rattle.program.proofs.Test.{and-left, and-right, and-intro, none-least}
+use Rattle.program.proofs.Test.{and-left, and-right, and-intro}
 use Rattle.program.specs.Each.{Each, nil, _&_}
 use Rattle.program.proofs.Each.{each-at, each-imp, each-append, each-left}
 use Rattle.least.proofs.Least.{elem-member, value-bound, chan-bound, smallest-keeps, smallest-lies, smallest-allowed}
-use Rattle.least.proofs.Constraints.{Within}
 use Rattle.format.specs.Limits.{rowLimit}
 use Rattle.format.specs.Text.{Bytes}
 use Rattle.format.specs.Document.{Document, Line, flow, comm, claim, member}
 use Rattle.format.specs.Document as document
-use Rattle.format.specs.Print.{formNumbers, rowLines, linesOf, documentText}
+use Rattle.format.specs.Print.{formNumbers, rowLines, linesOf}
 use Rattle.format.specs.Read.{present, rowNumbers, lineNumbers, aboveLimit}
 use Rattle.format.specs.Structure.{flowAllowed, commAllowed, structureFault}
 use Rattle.format.specs.Structure as structure
 use Rattle.format.specs.declared.Refusal.{Refusal}
 use Rattle.format.specs.WellFormed.{orderly, wellFormed}
-use Rattle.format.specs.declared.Reason.the-variants.{FlowRuleFails, ClaimFails, StoreTooShort, StoreEmpty, StoreUnsound}
-use Rattle.format.specs.Refusals.{number, refusal, Result, refused, accepted}
-use Rattle.format.specs.Check.{checkAny}
-use Rattle.format.proofs.Files.{check-any-iff}
+use Rattle.format.specs.Refusals.{Result, refused, accepted}
 use Rattle.format.proofs.Order.{orderly-iff}
 use Rattle.format.proofs.Rising.{every-append, every-left, every-right, every-head, every-tail}
 use Rattle.format.proofs.Structure.{other-tables}
 use Rattle.calls.specs.declared.LoadAnswer.{LoadAnswer}
-use Rattle.calls.specs.declared.JudgeAnswer.{JudgeAnswer}
-use Rattle.calls.specs.Layout.{memberLimit, rowsSize, setsSize, claimsStart, storeSize, counting, padded, rowBytes, setsBytes, claimCode, encode, decode}
-use Rattle.calls.specs.Judging.{flowTable, commTable, reaches, failingRow, failingClaim, after10, judgeClaims, judgeDocument}
-use Rattle.calls.specs.Calls.{Outcome, isEmpty, unsound, openedFixed, opened, counts, refilled, andThen, judgeAnswered, judge}
+use Rattle.calls.specs.Layout.{memberLimit, rowsSize, setsSize, claimsStart, storeSize, counting, padded, rowBytes, setsBytes, claimCode, encode}
+use Rattle.calls.specs.Judging.{flowTable, commTable}
+use Rattle.calls.specs.Calls.{Outcome, opened, counts, refilled, andThen, judge}
 use Rattle.inference.specs.Inference.{abstractOf, tableFlags, entriesOf, smallestDocument, inferred, infer}
-use Rattle.calls.proofs.Codec.{low, all-fit, rows-bytes-length}
+use Rattle.inference.specs.Inferred.{Inferred, InferIs}
+use Rattle.calls.proofs.Codec.{low, all-fit, rows-bytes-length, encode-length}
 use Rattle.calls.proofs.Codec.Sets.{sets-bytes-length}
 use Rattle.calls.proofs.Canonical.{drop-thrice}
-use Rattle.calls.proofs.Calls.{orderly-of, opened-is, opened-loaded, judge-opened}
-use Rattle.calls.specs.Exact.{RowKeeps}
-use Rattle.calls.proofs.Judging.{row-iff}
+use Rattle.calls.proofs.Calls.{orderly-of, opened-is, opened-loaded}
+use Rattle.calls.specs.Exact.{Closed, RowKeeps, RulesHold, JudgeIs}
+use Rattle.calls.specs.Answers.{Answer, turnedBack, loadAnswer, judgeAnswer}
+use Rattle.calls.proofs.Exact.{opened-iff, closed-is, judge-answers}
 use Rattle.calls.proofs.Canonical.Lists.{every-intro}
 use Rattle.calls.proofs.Canonical.Sets.{sets-rise, flow-lines, comm-lines}
 use Rattle.inference.proofs.Tables.{entries-flags, entries-hold, entries-table}
@@ -192,45 +188,16 @@ unfolding encode smallestDocument
 encode-smallest d = rw (entries-flags (smallestFlow (d .rows)), entries-flags (smallestComm (d .rows)))
 
 -- what comes of a store that opens
-pub record Inferred (store : Bytes) (d d′ : Document) : Type 0 where
-  pub opens : opened (infer store .bytes) ≡ accepted d′
-  -- "The call answers the counts that load would on the outcome's text, were there no length limit"
-  pub answers : infer store .answer ≡ LoadAnswer.Loaded (counts d′)
-  pub loads : checkAny (documentText d′) ≡ accepted d′
-  -- "Rows and claims keep their bytes"
-  pub same-rows : d′ .rows ≡ d .rows
-  pub same-claims : d′ .claims ≡ d .claims
-  -- "They keep every flow rule, and each set lies inside the same set of any other tables that do"
-  pub keeps : KeepsAll (d .rows) (flowTable d′) (commTable d′)
-  pub smallest : (flow comm : Table) → KeepsAll (d .rows) flow comm → Within (flowTable d′) flow × Within (commTable d′) comm
-
 module _ (store : Bytes) (d : Document) (e : opened store ≡ accepted d) where
   infer-opened : infer store ≡ record { answer = LoadAnswer.Loaded (counts (smallestDocument d)); bytes = encode (smallestDocument d) ++ drop storeSize store }
   unfolding infer andThen inferred refilled
   infer-opened = rw e
 
-  pub inferred-is : Inferred store d (smallestDocument d)
-  unfolding smallestDocument
-  inferred-is =
-      let w = opened-is store d e .well in
-      let w′ = smallest-well d w in
-      record {
-        opens = ap (λ (o : Outcome LoadAnswer). opened (o .bytes)) infer-opened ∙ opened-loaded (smallestDocument d) w′ (drop storeSize store);
-        answers = ap (λ (o : Outcome LoadAnswer). o .answer) infer-opened;
-        loads = check-any-iff (documentText (smallestDocument d)) (smallestDocument d) .1 (refl, w′);
-        same-rows = refl;
-        same-claims = refl;
-        keeps = rw (flow-smallest d w, comm-smallest d w) (smallest-keeps (d .rows));
-        smallest = λ flow comm k. rw (flow-smallest d w, comm-smallest d w) (smallest-lies (d .rows) flow comm k);
-      }
+  well-opened : So (wellFormed (smallestDocument d))
+  well-opened = smallest-well d (opened-is store d e .well)
 
-  -- judge goes on to the claims
-  pub judge-inferred : judge (infer store .bytes) ≡ judgeAnswered (judgeClaims (smallestDocument d) (failingClaim (smallestDocument d) (reaches (smallestDocument d))))
-  unfolding judgeDocument after10 RowKeeps
-  judge-inferred = judge-opened (infer store .bytes) (smallestDocument d) (inferred-is .opens) ∙ rw (no-row, after10)
-    where
-      no-row : failingRow (smallestDocument d) ≡ none
-      no-row = unfold failingRow in none-least (length (smallestDocument d .rows)) _ (λ r l. rw (row-iff (smallestDocument d) r .1 (λ b q. unfold KeepsAll smallestDocument in inferred-is .keeps r b q)))
+  opened-again : opened (infer store .bytes) ≡ accepted (smallestDocument d)
+  opened-again = ap (λ (o : Outcome LoadAnswer). opened (o .bytes)) infer-opened ∙ opened-loaded (smallestDocument d) well-opened (drop storeSize store)
 
 -- ---- the bytes of rows and claims
 
@@ -280,46 +247,75 @@ module _ (store : Bytes) (d : Document) (e : opened store ≡ accepted d) where
 -- ---- a store of any bytes
 
 -- a store that does not open stays as it was
-pub infer-refused : (store : Bytes) (r : Refusal) → opened store ≡ refused r → infer store ≡ record { answer = LoadAnswer.Refused r; bytes = store }
+infer-refused : (store : Bytes) (r : Refusal) → opened store ≡ refused r → infer store ≡ record { answer = LoadAnswer.Refused r; bytes = store }
 unfolding infer andThen inferred
 infer-refused store r e = rw e
 
--- by whether the store opens
-cases : {P : Type 0} (x : Result Document) → ((r : Refusal) → x ≡ refused r → P) → ((d : Document) → x ≡ accepted d → P) → P
-cases (refused r) f g = f r refl
-cases (accepted d) f g = g d refl
+-- the lines of the smallest tables are not empty
+lines-present : (t : Table) → Each (λ e. So (present (e .members))) (entriesOf t)
+lines-present t = each-imp (λ e h. h .0) (entries-hold t)
+
+inferred-is : (store : Bytes) (d : Document) (e : opened store ≡ accepted d) → Inferred store d (smallestDocument d)
+unfolding smallestDocument
+inferred-is store d e =
+    let w = opened-is store d e .well in
+    record {
+      holds = opened-iff (infer store .bytes) (smallestDocument d) .0 (opened-again store d e);
+      row-bytes = opened-rows store d e;
+      claim-bytes = opened-rest store d e;
+      same-rows = refl;
+      same-claims = refl;
+      keeps = rw (flow-smallest d w, comm-smallest d w) (smallest-keeps (d .rows));
+      smallest = λ flow comm k. rw (flow-smallest d w, comm-smallest d w) (smallest-lies (d .rows) flow comm k);
+      lines = (lines-present (smallestFlow (d .rows)), lines-present (smallestComm (d .rows)));
+    }
 
 module _ (store : Bytes) where
-  pub rows-kept : take rowsSize (infer store .bytes) ≡ take rowsSize store
-  rows-kept = cases (opened store) (λ r e. ap (λ (o : Outcome LoadAnswer). take rowsSize (o .bytes)) (infer-refused store r e)) (opened-rows store)
-
-  pub rest-kept : drop (claimsStart) (infer store .bytes) ≡ drop (claimsStart) store
-  rest-kept = cases (opened store) (λ r e. ap (λ (o : Outcome LoadAnswer). drop (claimsStart) (o .bytes)) (infer-refused store r e)) (opened-rest store)
-
-  -- 20, 21 and 22
-  state-refusal : (r : Refusal) → opened store ≡ refused r → 20 ≤ number (r .reason)
-  unfolding opened openedFixed number
-  state-refusal r e = go (ltb (length store) storeSize) (isEmpty (take storeSize store)) (unsound (take storeSize store)) e
+  pub infer-exact : InferIs store (loadAnswer (infer store .answer))
+  infer-exact = go (opened store) refl
     where
-      go : (a b c : Bool) → _≡_ {A = Result Document} (elim a [
-        | true ↦ refused (refusal StoreTooShort 0)
-        | false ↦ elim b [ true ↦ refused (refusal StoreEmpty 0) | false ↦ elim c [ true ↦ refused (refusal StoreUnsound 0) | false ↦ accepted (decode (take storeSize store)) ] ]
-      ]) (refused r) → 20 ≤ number (r .reason)
-      go true b c h = let q : refusal StoreTooShort 0 ≡ r = cc in rw (← q) (lit≤ tt)
-      go false true c h = let q : refusal StoreEmpty 0 ≡ r = cc in rw (← q) (lit≤ tt)
-      go false false true h = let q : refusal StoreUnsound 0 ≡ r = cc in rw (← q) (lit≤ tt)
-      go false false false h = let z : _≡_ {A = ℕ} 0 1 = cc in absurd (omega arith)
+      go : (x : Result Document) → opened store ≡ x → InferIs store (loadAnswer (infer store .answer))
+      go (refused r) e =
+          rw (infer-refused store r e) (unfold loadAnswer in InferIs.closed (closed-is store r e) (ap (λ (o : Outcome LoadAnswer). o .bytes) (infer-refused store r e)))
+      go (accepted d) e =
+          rw (infer-opened store d e) (unfold loadAnswer counts in InferIs.infers d (smallestDocument d) (opened-iff store d .0 e) (inferred-is store d e))
+
+  -- the outcome is its own outcome
+  pub infer-twice : infer (infer store .bytes) ≡ infer store
+  infer-twice = go (opened store) refl
+    where
+      again : (d : Document) → smallestDocument (smallestDocument d) ≡ smallestDocument d
+      again d = unfold smallestDocument in refl
+
+      go : (x : Result Document) → opened store ≡ x → infer (infer store .bytes) ≡ infer store
+      go (refused r) e = ap (λ (o : Outcome LoadAnswer). infer (o .bytes)) (infer-refused store r e)
+      go (accepted d) e =
+          let d′ = smallestDocument d in
+          let o : infer store ≡ record { answer = LoadAnswer.Loaded (counts d′); bytes = encode d′ ++ drop storeSize store } = infer-opened store d e in
+          let size : length (encode d′) ≡ storeSize = encode-length d′ (orderly-of d′ (well-opened store d e)) in
+          let rest : drop storeSize (infer store .bytes) ≡ drop storeSize store = ap (λ (o : Outcome LoadAnswer). drop storeSize (o .bytes)) o ∙ drop-at (encode d′) (drop storeSize store) storeSize size in
+          infer-opened (infer store .bytes) d′ (opened-again store d e) ∙ rw (again d, rest) (sym o)
 
   -- "Judge never answers 10 on the outcome"
-  pub never-10 : (line : ℕ) → judge (infer store .bytes) ≢ JudgeAnswer.Refused (refusal FlowRuleFails line)
-  unfolding judge andThen judgeAnswered number
-  never-10 line h = cases (opened store) (λ r e.
-      let q : judge store ≡ JudgeAnswer.Refused r = rw e in
-      let k : judge store ≡ JudgeAnswer.Refused (refusal FlowRuleFails line) = ap (λ (o : Outcome LoadAnswer). judge (o .bytes)) (sym (infer-refused store r e)) ∙ h in
-      let s : r ≡ refusal FlowRuleFails line = cc in
-      let z : number (r .reason) ≡ 10 = rw s in
-      omega (arith, state-refusal r e)) (λ d e. go (smallestDocument d) (failingClaim (smallestDocument d) (reaches (smallestDocument d))) (sym (judge-inferred store d e) ∙ h))
+  pub never-10 : (line : ℕ) → judgeAnswer (judge (infer store .bytes)) ≢ turnedBack 10 line
+  unfolding RowKeeps KeepsAll
+  never-10 line h = go _ (judge-answers (infer store .bytes)) h
     where
-      go : (d : Document) (o : Option ℕ) → judgeAnswered (judgeClaims d o) ≡ JudgeAnswer.Refused (refusal FlowRuleFails line) → ⊥
-      go d none h = let z : _≡_ {A = ℕ} 0 1 = unfold judgeClaims in cc in omega arith
-      go d (some l) h = let q : refusal ClaimFails l ≡ refusal FlowRuleFails line = unfold judgeClaims in cc in let z : number ClaimFails ≡ number FlowRuleFails = ap (λ (r : Refusal). number (r .reason)) q in omega arith
+      -- a document that the outcome holds keeps every rule
+      keeps : (d′ : Document) → opened (infer store .bytes) ≡ accepted d′ → (x : Result Document) → opened store ≡ x → RulesHold d′
+      keeps d′ k (refused r) e =
+          let shut : opened store ≡ accepted d′ = ap (λ (o : Outcome LoadAnswer). opened (o .bytes)) (sym (infer-refused store r e)) ∙ k in
+          let z : _≡_ {A = ℕ} 0 1 = cc in
+          absurd (omega arith)
+      keeps d′ k (accepted d) e =
+          let same : smallestDocument d ≡ d′ = (let q : _≡_ {A = Result Document} (accepted (smallestDocument d)) (accepted d′) = sym (opened-again store d e) ∙ k in cc) in
+          subst (λ (x : Document). RulesHold x) same (inferred-is store d e .keeps)
+
+      go : (a : Answer) → JudgeIs (infer store .bytes) a → a ≡ turnedBack 10 line → ⊥
+      go a (JudgeIs.closed (Closed.too-short l)) q = let z : _≡_ {A = ℕ} 20 10 = cc in omega arith
+      go a (JudgeIs.closed (Closed.empty l m)) q = let z : _≡_ {A = ℕ} 21 10 = cc in omega arith
+      go a (JudgeIs.closed (Closed.unsound l m k)) q = let z : _≡_ {A = ℕ} 22 10 = cc in omega arith
+      go a (JudgeIs.rule-fails d k r broken) q =
+          broken .broken (λ b e. keeps d (opened-iff (infer store .bytes) d .1 k) (opened store) refl r b e)
+      go a (JudgeIs.claim-fails d k rules passed fails) q = let z : _≡_ {A = ℕ} 11 10 = cc in omega arith
+      go a (JudgeIs.accepts d k rules claims) q = let z : _≡_ {A = ℕ} 0 1 = cc in omega arith

@@ -1,2 +1,3 @@
--- The call infer.
+-- The call infer, and what is promised of it.
 pub mod Inference
+pub mod Inferred

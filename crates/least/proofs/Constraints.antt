@@ -13,7 +13,7 @@ use Rattle.program.specs.Test.{pick}
 use Rattle.program.specs.Flow.{Abstract, row, Set, Table}
 use Rattle.program.specs.FlowRule.{ForEach, Lies, FlowRule}
 use Rattle.program.specs.Program.{Program, sendAt, recvAt}
-use Rattle.least.specs.Least.{Constraint, holds, lies, gather, ofFound, ofRows, ofChans, sendConstraints, recvConstraints, constraints, Sets, bothTables}
+use Rattle.least.specs.Least.{Within, Constraint, holds, lies, gather, ofFound, ofRows, ofChans, sendConstraints, recvConstraints, constraints, Sets, bothTables}
 use Rattle.program.specs.Each.{Each, nil, _&_}
 use Rattle.program.proofs.Each.{each-append, each-left, each-right}
 use Rattle.program.proofs.Test.{below}
@@ -84,10 +84,6 @@ module _ (p : Program) (flow comm : Table) (r n : ℕ) where
   constraints-iff (Apply f a) = simp (rows-iff, found-iff, two-iff) Iff·rfl
 
 -- ---- smaller sets ask for less
-
--- each set lies in the same set of other tables
-abbrev pub Within : Table → Table → Type 0
-Within flow flow′ = (n : ℕ) (a : Abstract) → So (flow n a) → So (flow′ n a)
 
 module _ (P : Constraint → Type 0) where
   found-less : {A : Type 0} (o : Option A) {f f′ : A → List Constraint} → ((a : A) → Each P (f′ a) → Each P (f a)) → Each P (ofFound o f′) → Each P (ofFound o f)

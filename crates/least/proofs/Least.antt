@@ -14,13 +14,13 @@ use Rattle.program.specs.Each.{Member, here, there, Each, nil, collect, elem}
 use Rattle.program.specs.Program.{Program, binders, bindAt, formAt, chanAt, chanOf, isValue, valueRow, chanRow}
 use Rattle.program.specs.Flow.{Abstract, Abstract-discrete, u, row, Set, Table}
 use Rattle.program.specs.FlowRule.{Lies, KeepsAll}
-use Rattle.least.specs.Least.{among, Variable, Variable-discrete, name, channel, Constraint, holds, lies, gather, constraints, Sets, bothTables, Membership, sameMembership, asksFor, allConstraints, variableAllowed, memberAllowed, widest, memberships, without, staysOut, rounds, smallest, smallestFlow, smallestComm}
+use Rattle.least.specs.Least.{Within, among, Variable, Variable-discrete, name, channel, Constraint, holds, lies, gather, constraints, Sets, bothTables, Membership, sameMembership, asksFor, allConstraints, variableAllowed, memberAllowed, widest, memberships, without, staysOut, rounds, smallest, smallestFlow, smallestComm}
 use Rattle.program.proofs.Each.{each-at, each-imp, each-both, each-member}
 use Rattle.program.proofs.Maybe.{has-elim, bind-elim}
 use Rattle.program.proofs.Sound.Shape.{bind-bound, member-left, member-right}
 use Rattle.program.proofs.Test.{and-left, and-right, and-intro, not-elim, not-intro, or-cases, test-elim, test-intro, below}
 use Rattle.least.proofs.Lists.{among-elim, among-intro, those-member, those-all}
-use Rattle.least.proofs.Constraints.{gather-iff, found-iff, Kept, constraints-iff, Within, constraints-less}
+use Rattle.least.proofs.Constraints.{gather-iff, found-iff, Kept, constraints-iff, constraints-less}
 use Rattle.least.proofs.Widest.{widestFlow, widestComm, widest-keeps}
 
 -- ---- memberships

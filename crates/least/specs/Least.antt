@@ -2,7 +2,7 @@
 -- "They keep every flow rule, and each set lies inside the same set of any other tables that do" is a theorem (proofs/Least), and it holds of no other tables.
 use Prim.Native.Nat.{ℕ, zero, suc}
 use native.Mathlib.Decide.{ℕ-discrete}
-use mathlib.Core.Bool.{Bool, true, false, not, _&&_, _||_}
+use mathlib.Core.Bool.{Bool, true, false, not, _&&_, _||_, So}
 use mathlib.Core.List.{List, [], _∷_, _++_, map}
 use mathlib.Core.Option.{Option, none, some}
 use lib.ListN.{length}
@@ -13,6 +13,10 @@ use Rattle.program.specs.Test.{pick, test}
 use Rattle.program.specs.Each.{collect, elem}
 use Rattle.program.specs.Program.{Program, binders, bindAt, chanAt, sendAt, recvAt, pairAt, leftAt, rightAt, funAt, resultName, valueRow, chanRow}
 use Rattle.program.specs.Flow.{Abstract, Abstract-discrete, u, row, Set, Table}
+
+-- "each set lies inside the same set of any other tables"
+abbrev pub Within : Table → Table → Type 0
+Within flow flow′ = (n : ℕ) (a : Abstract) → So (flow n a) → So (flow′ n a)
 
 module _ {A : Type 0} where
   -- the test holds of an element
