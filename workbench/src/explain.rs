@@ -6,7 +6,7 @@ mod shape;
 mod structure;
 mod walks;
 
-pub use flow::{demands, Demand, Table};
+pub use flow::{demands, Demand};
 pub use walks::breaking_walks;
 
 use std::ops::Range;
