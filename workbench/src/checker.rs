@@ -9,6 +9,7 @@ pub mod ffi;
 
 use std::fmt;
 
+use crate::layout::LONGEST_TEXT;
 use crate::reference::document::LAST_NUMBER;
 
 /// The low bits of an answer, which tell accepted from refused.
@@ -225,5 +226,13 @@ impl Store {
     /// Writes the store as text and answers how many bytes it has.
     pub fn write(&self, out: &mut [u8]) -> Result<usize, Refusal> {
         decode(ffi::write(&self.bytes, out))
+    }
+
+    /// The store as text, however long.
+    pub fn text(&self) -> Result<Vec<u8>, Refusal> {
+        let mut text = vec![0; LONGEST_TEXT];
+        let length = self.write(&mut text)?;
+        text.truncate(length);
+        Ok(text)
     }
 }

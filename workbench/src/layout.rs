@@ -5,9 +5,12 @@
 //!
 //! With it the reference can say of any bytes what the calls must answer.
 
+use std::ops::Range;
+
 use crate::reference::document::{
     Bind, Branch, Claim, Comm, Document, Flow, Form, Row, Set, Word, LAST_NUMBER, NUMBER_LIMIT,
 };
+use crate::reference::print::HEADER;
 use crate::reference::structure;
 
 /// How many rows and names there can be.
@@ -19,8 +22,18 @@ const FLOWS: usize = LIMIT * ROW_SIZE;
 const COMMS: usize = FLOWS + LIMIT * SET_SIZE;
 const CLAIMS: usize = COMMS + LIMIT * SET_SIZE;
 
+/// The bytes of all sets; before them stand the rows, after them the claims.
+pub const TABLES: Range<usize> = FLOWS..CLAIMS;
+
 /// The store's fixed size.
 pub const STORE_SIZE: usize = CLAIMS + LIMIT;
+
+/// No store's text has more bytes: its lines at their longest, and for each
+/// member a space and three digits.
+pub const LONGEST_TEXT: usize = HEADER.len()
+    + LIMIT * "[row 159 [bind 159 [case 159 159 159 159 159] 159]]\n".len()
+    + 2 * LIMIT * ("[flow 159 []]\n".len() + SET_SIZE * " 159".len())
+    + LIMIT * "[claim 159 one-to-one]\n".len();
 
 const NO_ROW: u8 = 0;
 const RESULT: u8 = 1;
