@@ -4,8 +4,8 @@
 
 use workbench::checker::{Counts, Reason, Store};
 use workbench::generate::{
-    bare_document, claim_anything, crowded_document, loadable_document, loose_document, sharing,
-    takers, unwinding, wide_document, widen, Random, Size, Tables,
+    bare_document, claim_anything, crowded_document, hardest, loadable_document, loose_document,
+    wide_document, widen, Random, Size, Tables,
 };
 use workbench::layout::{decode, encode, LONGEST_TEXT, STORE_SIZE, TABLES};
 use workbench::reference::check;
@@ -39,20 +39,13 @@ fn inferred(document: &Document) -> Document {
     outcome
 }
 
-/// A program of the greatest size for each kind of hard ones.
-fn hardest() -> [Document; 5] {
-    let documents = [
-        unwinding(NUMBER_LIMIT - 8, 0),
-        unwinding(77, 25),
-        sharing(25, 52, 52),
-        sharing(76, 1, 1),
-        takers(32),
-    ];
-    for document in &documents {
-        let loaded = check::load(&check::write(document));
-        assert_eq!(loaded.as_ref(), Ok(document));
-    }
-    documents
+/// The hardest programs, which load takes.
+fn hardest_documents() -> [Document; 5] {
+    hardest().map(|(name, document)| {
+        let loaded = check::load(&check::write(&document));
+        assert_eq!(loaded.as_ref(), Ok(&document), "{name}");
+        document
+    })
 }
 
 /// Calls the function with random sizes and programs.
@@ -102,7 +95,7 @@ fn the_reference_finds_what_rounds_over_the_rows_find() {
         let document = bare_document(random, size);
         assert_eq!(infer(&document), rounds(&document));
     });
-    for document in hardest() {
+    for document in hardest_documents() {
         assert_eq!(infer(&document), rounds(&document));
     }
 }
@@ -194,7 +187,7 @@ fn judge_never_answers_10_and_infer_twice_is_infer_once() {
         assert_eq!(store.infer().map(listed), Ok(counts));
         assert_eq!(store, once);
     };
-    hardest().iter().for_each(&mut try_document);
+    hardest_documents().iter().for_each(&mut try_document);
     each_size(97, 1_500, 60, |random, size| {
         let mut document = loose_document(random, size);
         claim_anything(random, &mut document);
@@ -222,7 +215,7 @@ fn the_counts_are_those_of_load_on_the_text() {
             lengths[1] += 1;
         }
     };
-    hardest().iter().for_each(&mut try_document);
+    hardest_documents().iter().for_each(&mut try_document);
     each_size(98, 1_000, 60, |random, size| {
         let mut document = bare_document(random, size);
         claim_anything(random, &mut document);
@@ -233,11 +226,11 @@ fn the_counts_are_those_of_load_on_the_text() {
 
 #[test]
 fn the_hardest_programs_have_the_tables_of_the_reference() {
-    for document in hardest() {
+    for document in hardest_documents() {
         assert_eq!(inferred(&document), infer(&document));
     }
     // What each is hard by: the greatest sets, and how many there are.
-    let greatest = hardest().map(|document| {
+    let greatest = hardest_documents().map(|document| {
         let outcome = infer(&document);
         let sizes: Vec<usize> = outcome
             .tables()
@@ -252,7 +245,7 @@ fn the_hardest_programs_have_the_tables_of_the_reference() {
 
 #[test]
 fn no_text_is_longer_than_the_longest() {
-    for document in hardest() {
+    for document in hardest_documents() {
         let mut tables = Tables::empty();
         widen(&mut Random::new(99), &document.rows, &mut tables, 200_000);
         let mut full = document.clone();

@@ -3,6 +3,17 @@
 
 use crate::reference::document::{Bind, Branch, Document, Form, Name, Row};
 
+/// The hardest of each kind that has no more than 160 rows and names.
+pub fn hardest() -> [(&'static str, Document); 5] {
+    [
+        ("a round for each row", unwinding(152, 0)),
+        ("most rounds", unwinding(77, 25)),
+        ("52 syncs share sets", sharing(25, 52, 52)),
+        ("longest outcome", sharing(76, 1, 1)),
+        ("functions take functions", takers(32)),
+    ]
+}
+
 /// A chain found in the wrong order, in `8 + pairs + 3 * hops` rows, with as
 /// many names. A function takes the first of the pair that it is given, hands it
 /// through so many nested cases, and calls itself with it; it is called with a
