@@ -12,7 +12,7 @@ use workbench::reference::check;
 use workbench::reference::document::{Document, Table, MAX_FILE_BYTES, NUMBER_LIMIT};
 use workbench::reference::flow::first_failing_row;
 use workbench::reference::infer::infer;
-use workbench::samples::{A, RELAY, SERVER, UNPACKING};
+use workbench::samples::{a_without_tables, A, RELAY, SERVER, UNPACKING};
 
 /// The store that the library's infer makes of a document's, and its counts.
 fn inferred_store(document: &Document) -> (Store, [usize; 4]) {
@@ -266,10 +266,7 @@ fn listing_a_has_its_smallest_tables_already() {
     assert_eq!(store, before);
     assert_eq!(infer(&document), document);
     // Without them it gets them back.
-    let is_table = |line: &&str| line.starts_with("[flow") || line.starts_with("[comm");
-    let lines = A.split_inclusive('\n');
-    let bare: String = lines.filter(|line| !is_table(line)).collect();
-    store.load(bare.as_bytes()).unwrap();
+    store.load(a_without_tables().as_bytes()).unwrap();
     assert_eq!(store.judge().unwrap_err().reason, Reason::FlowRule);
     assert_eq!(store.infer(), Ok(loaded));
     assert_eq!(store, before);

@@ -6,6 +6,9 @@ use crate::reference::flow::chan_rows_in;
 use crate::reference::print::{print, table_text};
 use crate::text::lines;
 
+const HINT: &str =
+    "`workbench infer FILE` prints the file with the smallest tables that keep the flow rules.";
+
 fn in_words(table: Table) -> String {
     match table {
         Table::Values(name) => format!("the set of name {name}"),
@@ -204,5 +207,8 @@ pub fn rule(document: &Document, line: usize) -> Option<Explanation> {
     // The form stands between the third `[` and the first `]`.
     let mut brackets = (0..text.len()).filter(|&at| text[at] == b'[');
     let end = text.iter().position(|&byte| byte == b']')? + 1;
-    Some(Explanation::new(Some(brackets.nth(2)?..end), why))
+    Some(Explanation {
+        hint: Some(HINT),
+        ..Explanation::new(Some(brackets.nth(2)?..end), why)
+    })
 }
