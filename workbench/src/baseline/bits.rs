@@ -23,7 +23,7 @@ impl Bits {
         for (index, eight) in flags.chunks_mut(8).enumerate() {
             let byte = self.0[index / 8] >> (8 * (index % 8)) & 0xff;
             // Byte i keeps bit i, and then has 1 for whatever it kept.
-            let kept = byte * ONES & 0x8040_2010_0804_0201;
+            let kept = (byte * ONES) & 0x8040_2010_0804_0201;
             let flags = (kept + 0x7f * ONES) >> 7 & ONES;
             eight.copy_from_slice(&flags.to_le_bytes()[..eight.len()]);
         }

@@ -31,7 +31,7 @@ pub enum Outcome {
         /// The line at fault, without its byte 10.
         line: Vec<u8>,
         /// None if the reference answers otherwise.
-        explanation: Option<Explanation>,
+        explanation: Option<Box<Explanation>>,
     },
     Unreadable(String),
 }
@@ -81,7 +81,7 @@ pub fn refused(file: &[u8], refusal: Refusal) -> Outcome {
     Outcome::Refused {
         refusal,
         line: line.strip_suffix(b"\n").unwrap_or(line).to_vec(),
-        explanation: explain(file, told),
+        explanation: explain(file, told).map(Box::new),
     }
 }
 

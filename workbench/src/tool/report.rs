@@ -56,7 +56,7 @@ pub fn text(file: &str, outcome: &Outcome, colours: bool) -> String {
             };
             let refused = styled(&format!("refused {number}"), Style::Bad, colours);
             let head = format!("{file}: {refused}{place}: {reason}\n");
-            head + &why(*at, line, explanation.as_ref(), colours)
+            head + &why(*at, line, explanation.as_deref(), colours)
         }
         Outcome::Unreadable(message) => {
             let trouble = styled("not checked", Style::Bad, colours);
