@@ -211,6 +211,15 @@ fn describe(inputs: &[Input]) {
              {channels} channels, {bytes} bytes",
             input.name
         );
+        let outcome = infer(&input.document);
+        if outcome != input.document {
+            let [_, flows, comms, _] = check::counts(&outcome);
+            let bytes = print(&outcome).len();
+            println!(
+                "{:<24} after infer {flows} flows, {comms} comms, {bytes} bytes",
+                ""
+            );
+        }
     }
     println!();
 }

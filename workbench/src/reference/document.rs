@@ -9,7 +9,7 @@
 //! - "A name or channel without a line has the empty set";
 //! - "Value rows are chan, send, recv, pair, left, right and fun".
 
-use std::collections::{BTreeMap, BTreeSet};
+use std::collections::BTreeSet;
 use std::fmt;
 
 /// The greatest number of a row or a name.
@@ -472,22 +472,17 @@ impl Document {
         flows.chain(comms.map(|comm| (Table::Messages(comm.channel), &comm.set)))
     }
 
-    /// The same rows and claims with other tables: a line for each set that is
-    /// not empty.
-    pub fn with_tables(&self, tables: &BTreeMap<Table, Set>) -> Document {
-        let mut document = Document {
-            rows: self.rows.clone(),
-            claims: self.claims.clone(),
-            ..Document::default()
-        };
-        for (&table, set) in tables.iter().filter(|(_, set)| !set.is_empty()) {
-            let set = set.clone();
+    /// Puts other tables in place of the document's own, sets of the same kind
+    /// by rising numbers: a line for each that is not empty.
+    pub fn put_tables(&mut self, tables: impl IntoIterator<Item = (Table, Set)>) {
+        self.flows.clear();
+        self.comms.clear();
+        for (table, set) in tables.into_iter().filter(|(_, set)| !set.is_empty()) {
             match table {
-                Table::Values(name) => document.flows.push(Flow { name, set }),
-                Table::Messages(channel) => document.comms.push(Comm { channel, set }),
+                Table::Values(name) => self.flows.push(Flow { name, set }),
+                Table::Messages(channel) => self.comms.push(Comm { channel, set }),
             }
         }
-        document
     }
 
     /// "the one reached from it by rests": the result row of a branch or body.

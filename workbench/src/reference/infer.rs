@@ -30,7 +30,9 @@ pub fn infer(document: &Document) -> Document {
     while let Some((table, member)) = growth.waiting.pop() {
         growth.put(table, member);
     }
-    document.with_tables(&growth.sets)
+    let mut outcome = document.clone();
+    outcome.put_tables(growth.sets);
+    outcome
 }
 
 /// What a rule asks for each row of some kind in one name's set. N is the name
