@@ -10,6 +10,7 @@
  * accepted, else they are the number of the refusal. Above them:
  *   refused           the line, 0 for none
  *   load accepted     rows, flows, comms and claims, 8 bits each, lowest first
+ *   infer accepted    as load
  *   judge accepted    the count of claims
  *   verdict accepted  one-shot, one-to-one, fan-out and fan-in, a bit each,
  *                     lowest first, 1 for yes
@@ -32,6 +33,12 @@ uint64_t dispenser_store_size(void);
 /* Loads a file into a store. Refusals 20 and 1 to 9; 1 to 9 empty the store. */
 uint64_t dispenser_load(const uint8_t *file, size_t file_length,
                         uint8_t *store, size_t store_length);
+
+/* Puts the smallest tables that keep the flow rules in place of a store's own,
+ * from its rows alone; rows and claims keep their bytes. Answers the counts of
+ * the outcome, whose text may be longer than a file. Refusals 20 to 22, which
+ * alter nothing. */
+uint64_t dispenser_infer(uint8_t *store, size_t store_length);
 
 /* Judges the claims of a store. Refusals 20 to 22, 10 and 11. */
 uint64_t dispenser_judge(const uint8_t *store, size_t store_length);

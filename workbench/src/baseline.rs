@@ -1,8 +1,11 @@
-//! A judge in plain Rust written for speed, over sets of bits: a second measure
-//! for the proved one beside the reference, which is written to be read. It
-//! takes a store that load left and does not test its bytes.
+//! Judge, verdict and infer in plain Rust written for speed, over sets of bits: a
+//! second measure for the proved ones beside the reference, which is written to
+//! be read. They take a store that load left and do not test its bytes.
 
 mod bits;
+mod infer;
+
+pub use infer::infer;
 
 use bits::Bits;
 
@@ -19,7 +22,6 @@ struct Program {
     rows: Vec<Row>,
     values: Vec<Bits>,
     messages: Vec<Bits>,
-    /// For each row, the name in the result reached by rests, and its row.
     results: Vec<(Name, usize)>,
 }
 
@@ -35,7 +37,7 @@ pub fn judge(store: &[u8]) -> Result<usize, Refusal> {
         };
         if !word_holds(Word::ALL[index], program.verdict(&reach, channel)) {
             let sets = program.values.iter().chain(&program.messages);
-            let lines = sets.filter(|&&set| set != Bits::default()).count();
+            let lines = sets.filter(|set| !set.is_empty()).count();
             return Err(refusal(CLAIM, 2 + program.rows.len() + lines + claims));
         }
         claims += 1;
@@ -55,16 +57,27 @@ pub fn verdict(store: &[u8], channel: usize) -> Result<Verdict, Refusal> {
     }
 }
 
+/// The rows of a store.
+fn rows(store: &[u8]) -> Vec<Row> {
+    (0..LIMIT).map_while(|number| row(store, number)).collect()
+}
+
+/// For each row, the name in the result reached by rests, and its row.
+fn results(rows: &[Row]) -> Vec<(Name, usize)> {
+    let mut results = vec![(0, 0); rows.len()];
+    for (number, row) in rows.iter().enumerate().rev() {
+        results[number] = match row {
+            Row::Result(name) => (*name, number),
+            Row::Bind(bind) => results[bind.rest],
+        };
+    }
+    results
+}
+
 impl Program {
     fn read(store: &[u8]) -> Program {
-        let rows: Vec<Row> = (0..LIMIT).map_while(|number| row(store, number)).collect();
-        let mut results = vec![(0, 0); rows.len()];
-        for (number, row) in rows.iter().enumerate().rev() {
-            results[number] = match row {
-                Row::Result(name) => (*name, number),
-                Row::Bind(bind) => results[bind.rest],
-            };
-        }
+        let rows = rows(store);
+        let results = results(&rows);
         let sets = |flags: fn(&[u8], usize) -> &[u8]| {
             let numbers = 0..LIMIT;
             numbers

@@ -9,6 +9,7 @@ pub mod ffi;
 
 use std::fmt;
 
+use crate::layout::LONGEST_TEXT;
 use crate::reference::document::LAST_NUMBER;
 
 /// The low bits of an answer, which tell accepted from refused.
@@ -113,13 +114,26 @@ impl fmt::Display for Refusal {
 
 impl std::error::Error for Refusal {}
 
-/// How many lines of each kind a loaded file has.
+/// How many lines of each kind the text of a store has.
 #[derive(Clone, Copy, Debug, PartialEq, Eq)]
 pub struct Counts {
     pub rows: usize,
     pub flows: usize,
     pub comms: usize,
     pub claims: usize,
+}
+
+impl Counts {
+    /// The four numbers of 8 bits that stand in an accepted answer, lowest first.
+    fn of_answer(value: usize) -> Counts {
+        let [rows, flows, comms, claims] = [0, 8, 16, 24].map(|shift| value >> shift & 0xff);
+        Counts {
+            rows,
+            flows,
+            comms,
+            claims,
+        }
+    }
 }
 
 /// What an accepted call answers, or the refusal.
@@ -139,11 +153,6 @@ fn decode(answer: u64) -> Result<usize, Refusal> {
         }),
         None => panic!("the library answered {number}, which is no refusal"),
     }
-}
-
-/// The four numbers of 8 bits that stand in an accepted answer, lowest first.
-fn bytes_of(value: usize) -> [usize; 4] {
-    [0, 8, 16, 24].map(|shift| value >> shift & 0xff)
 }
 
 /// A store that owns its bytes.
@@ -182,14 +191,13 @@ impl Store {
 
     /// Loads a file. Where it is refused with 1 to 9 the store is empty.
     pub fn load(&mut self, file: &[u8]) -> Result<Counts, Refusal> {
-        let value = decode(ffi::load(file, &mut self.bytes))?;
-        let [rows, flows, comms, claims] = bytes_of(value);
-        Ok(Counts {
-            rows,
-            flows,
-            comms,
-            claims,
-        })
+        decode(ffi::load(file, &mut self.bytes)).map(Counts::of_answer)
+    }
+
+    /// Puts the smallest tables that keep the flow rules in place of the
+    /// store's own; rows and claims stay.
+    pub fn infer(&mut self) -> Result<Counts, Refusal> {
+        decode(ffi::infer(&mut self.bytes)).map(Counts::of_answer)
     }
 
     /// The count of claims, if the tables keep the flow rules and all claims
@@ -218,5 +226,13 @@ impl Store {
     /// Writes the store as text and answers how many bytes it has.
     pub fn write(&self, out: &mut [u8]) -> Result<usize, Refusal> {
         decode(ffi::write(&self.bytes, out))
+    }
+
+    /// The store as text, however long.
+    pub fn text(&self) -> Result<Vec<u8>, Refusal> {
+        let mut text = vec![0; LONGEST_TEXT];
+        let length = self.write(&mut text)?;
+        text.truncate(length);
+        Ok(text)
     }
 }

@@ -6,7 +6,7 @@ mod shape;
 mod structure;
 mod walks;
 
-pub use flow::{demands, Demand, Table};
+pub use flow::{demands, Demand};
 pub use walks::breaking_walks;
 
 use std::ops::Range;
@@ -27,12 +27,17 @@ pub struct Explanation {
     pub why: Vec<String>,
     /// Two walks that break the claim.
     pub walks: Option<[Vec<usize>; 2]>,
+    /// What may help.
+    pub hint: Option<&'static str>,
 }
 
 impl Explanation {
     fn new(mark: Option<Range<usize>>, why: Vec<String>) -> Explanation {
-        let walks = None;
-        Explanation { mark, why, walks }
+        Explanation {
+            mark,
+            why,
+            ..Explanation::default()
+        }
     }
 
     /// One sentence and one place.

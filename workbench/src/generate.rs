@@ -5,6 +5,7 @@
 
 mod damage;
 mod documents;
+mod hardest;
 mod limits;
 mod program;
 mod scaled;
@@ -13,9 +14,10 @@ mod tables;
 
 pub use damage::{damage, damaged_file, edit_byte, edit_lines, edit_number, edit_set};
 pub use documents::{
-    accepted_document, claim_anything, claim_falsely, claim_truly, contested, crowded_document,
-    least_document, loadable_document, loose_document, wide_document,
+    accepted_document, bare_document, claim_anything, claim_falsely, claim_truly, contested,
+    crowded_document, least_document, loadable_document, loose_document, wide_document,
 };
+pub use hardest::{hardest, sharing, takers, unwinding};
 pub use limits::{chain, file_of_length, full_document};
 pub use program::program;
 pub use scaled::{dense, shared, workers};

@@ -5,9 +5,13 @@
 //!
 //! With it the reference can say of any bytes what the calls must answer.
 
+use std::ops::Range;
+
 use crate::reference::document::{
-    Bind, Branch, Claim, Comm, Document, Flow, Form, Row, Set, Word, LAST_NUMBER, NUMBER_LIMIT,
+    Bind, Branch, Claim, Comm, Document, Flow, Form, Row, Set, Table, Word, LAST_NUMBER,
+    NUMBER_LIMIT,
 };
+use crate::reference::print::HEADER;
 use crate::reference::structure;
 
 /// How many rows and names there can be.
@@ -19,8 +23,18 @@ const FLOWS: usize = LIMIT * ROW_SIZE;
 const COMMS: usize = FLOWS + LIMIT * SET_SIZE;
 const CLAIMS: usize = COMMS + LIMIT * SET_SIZE;
 
+/// The bytes of all sets; before them stand the rows, after them the claims.
+pub const TABLES: Range<usize> = FLOWS..CLAIMS;
+
 /// The store's fixed size.
 pub const STORE_SIZE: usize = CLAIMS + LIMIT;
+
+/// No store's text has more bytes: its lines at their longest, and for each
+/// member a space and three digits.
+pub const LONGEST_TEXT: usize = HEADER.len()
+    + LIMIT * "[row 159 [bind 159 [case 159 159 159 159 159] 159]]\n".len()
+    + 2 * LIMIT * ("[flow 159 []]\n".len() + SET_SIZE * " 159".len())
+    + LIMIT * "[claim 159 one-to-one]\n".len();
 
 const NO_ROW: u8 = 0;
 const RESULT: u8 = 1;
@@ -40,11 +54,8 @@ pub fn encode(document: &Document) -> Vec<u8> {
             *byte = number as u8;
         }
     }
-    for flow in &document.flows {
-        encode_set(&mut store[FLOWS + flow.name * SET_SIZE..], &flow.set);
-    }
-    for comm in &document.comms {
-        encode_set(&mut store[COMMS + comm.channel * SET_SIZE..], &comm.set);
+    for (table, set) in document.tables() {
+        encode_set(&mut store[set_place(table)], set);
     }
     for claim in &document.claims {
         let index = Word::ALL.iter().position(|&word| word == claim.word);
@@ -78,14 +89,23 @@ pub fn row(store: &[u8], row: usize) -> Option<Row> {
     decode_row(store[..FLOWS].chunks(ROW_SIZE).nth(row)?)
 }
 
+/// Where the set of a name or channel row stands.
+pub fn set_place(table: Table) -> Range<usize> {
+    let start = match table {
+        Table::Values(name) => FLOWS + name * SET_SIZE,
+        Table::Messages(channel) => COMMS + channel * SET_SIZE,
+    };
+    start..start + SET_SIZE
+}
+
 /// The flags of a name's set: unit, then the rows.
 pub fn flow_flags(store: &[u8], name: usize) -> &[u8] {
-    &store[FLOWS + name * SET_SIZE..][..SET_SIZE]
+    &store[set_place(Table::Values(name))]
 }
 
 /// The flags of a channel row's set of messages.
 pub fn comm_flags(store: &[u8], channel: usize) -> &[u8] {
-    &store[COMMS + channel * SET_SIZE..][..SET_SIZE]
+    &store[set_place(Table::Messages(channel))]
 }
 
 /// The code of a row's claim: 0 for none, else one more than the word's place in

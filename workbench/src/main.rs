@@ -1,4 +1,4 @@
-//! The tool for people: `workbench check FILE..`.
+//! The tool for people: `workbench check FILE..`, `workbench infer FILE`.
 
 use std::process::ExitCode;
 

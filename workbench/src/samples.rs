@@ -39,3 +39,10 @@ pub fn a_with(old: &str, new: &str) -> String {
     };
     A.replace(&old, &new)
 }
+
+/// Listing A without flow and comm lines.
+pub fn a_without_tables() -> String {
+    let is_table = |line: &str| line.starts_with("[flow") || line.starts_with("[comm");
+    let lines = A.split_inclusive('\n');
+    lines.filter(|line| !is_table(line)).collect()
+}

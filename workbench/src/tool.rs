@@ -1,17 +1,22 @@
-//! The tool: what the proved checker says of files, and why.
+//! The tool: what the proved checker says of files, and why; and files with
+//! their smallest tables.
 
 mod arguments;
 mod json;
 mod outcome;
 mod report;
+mod tables;
 
 use std::io::{self, IsTerminal, Write};
+use std::path::{Path, PathBuf};
 use std::process::ExitCode;
 
 use arguments::{parse, Command, USAGE};
 use outcome::{check, Outcome};
 
-/// All files were accepted.
+use crate::reference::document::MAX_FILE_BYTES;
+
+/// All files were accepted, or what was asked for is done.
 const ACCEPTED: u8 = 0;
 /// Some file was refused.
 const REFUSED: u8 = 1;
@@ -37,6 +42,7 @@ pub fn main() -> ExitCode {
                 false => report::text(file, outcome, colours),
             })
         }
+        Command::Infer { file, diff } => infer(&mut stdout, &file, diff),
     };
     match outcome {
         Ok(status) => ExitCode::from(status),
@@ -57,7 +63,7 @@ fn no_color() -> bool {
 /// Checks files one by one and prints each outcome; the worst status of all.
 fn run(
     out: &mut impl Write,
-    files: &[std::path::PathBuf],
+    files: &[PathBuf],
     show: impl Fn(&str, &Outcome) -> String,
 ) -> io::Result<u8> {
     let mut worst = ACCEPTED;
@@ -65,12 +71,45 @@ fn run(
         let outcome = check(file);
         let name = file.display().to_string();
         out.write_all(show(&name, &outcome).as_bytes())?;
-        worst = worst.max(match outcome {
-            Outcome::Accepted { .. } => ACCEPTED,
-            Outcome::Refused { .. } => REFUSED,
-            Outcome::Unreadable(_) => TROUBLE,
-        });
+        worst = worst.max(status(&outcome));
     }
     out.flush()?;
     Ok(worst)
+}
+
+/// The exit status of a file's outcome.
+fn status(outcome: &Outcome) -> u8 {
+    match outcome {
+        Outcome::Accepted { .. } => ACCEPTED,
+        Outcome::Refused { .. } => REFUSED,
+        Outcome::Unreadable(_) => TROUBLE,
+    }
+}
+
+/// Prints a file with its smallest tables, or what they change. Whatever else
+/// there is to say goes to standard error, since the output may become a file.
+fn infer(out: &mut impl Write, file: &Path, diff: bool) -> io::Result<u8> {
+    let inferred = match tables::infer(file) {
+        Ok(inferred) => inferred,
+        Err(outcome) => {
+            let colours = io::stderr().is_terminal() && !no_color();
+            let name = file.display().to_string();
+            eprint!("{}", report::text(&name, &outcome, colours));
+            return Ok(status(&outcome));
+        }
+    };
+    match diff {
+        true => out.write_all(inferred.diff().as_bytes())?,
+        false => out.write_all(&inferred.text)?,
+    }
+    out.flush()?;
+    let bytes = inferred.text.len();
+    if bytes > MAX_FILE_BYTES {
+        eprintln!(
+            "workbench: with these tables {} has {bytes} bytes, and no file of more than \
+             {MAX_FILE_BYTES} can be loaded",
+            file.display()
+        );
+    }
+    Ok(ACCEPTED)
 }

@@ -1,14 +1,15 @@
-//! The judge written for speed answers as the reference does: it is worth
-//! nothing as a measure otherwise.
+//! What is written for speed answers as the reference does: it is worth nothing
+//! as a measure otherwise.
 
 use workbench::baseline;
 use workbench::generate::{
-    claim_anything, dense, loadable_document, loose_document, shared, wide_document, workers,
-    Random, Size,
+    bare_document, claim_anything, dense, hardest, loadable_document, loose_document, shared,
+    wide_document, workers, Random, Size,
 };
 use workbench::layout::encode;
 use workbench::reference::check;
-use workbench::reference::document::Document;
+use workbench::reference::document::{Document, NUMBER_LIMIT};
+use workbench::reference::infer::infer;
 
 fn compare(document: &Document) -> u16 {
     let store = encode(document);
@@ -55,4 +56,37 @@ fn it_answers_as_the_reference_on_what_is_measured() {
     }
     let store = encode(&dense());
     assert_eq!(baseline::judge(&store), check::judge(&dense()));
+}
+
+fn compare_infer(document: &Document) {
+    let outcome = infer(document);
+    let mut store = encode(document);
+    assert_eq!(baseline::infer(&mut store), check::counts(&outcome));
+    assert!(store == encode(&outcome));
+}
+
+#[test]
+fn it_infers_as_the_reference() {
+    let mut random = Random::new(82);
+    for _ in 0..3_000 {
+        let rows = 4 + random.below(60);
+        let size = Size { rows, names: 160 };
+        let mut document = match random.below(3) {
+            0 => loose_document(&mut random, size),
+            1 => wide_document(&mut random, size),
+            _ => bare_document(&mut random, size),
+        };
+        claim_anything(&mut random, &mut document);
+        compare_infer(&document);
+    }
+}
+
+#[test]
+fn it_infers_as_the_reference_on_what_is_measured() {
+    for document in [workers(NUMBER_LIMIT), shared(NUMBER_LIMIT), dense()] {
+        compare_infer(&document);
+    }
+    for (_, document) in hardest() {
+        compare_infer(&document);
+    }
 }

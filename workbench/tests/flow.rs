@@ -3,10 +3,9 @@
 use std::collections::BTreeMap;
 
 use workbench::generate::{
-    least_document, loadable_document, loose_document, narrow, wide_document, Random, Size, Tables,
+    least_document, loadable_document, loose_document, narrow, Random, Size, Tables,
 };
 use workbench::reference::check::judge;
-use workbench::reference::document::Document;
 use workbench::reference::flow::{first_failing_row, rule_holds};
 use workbench::reference::refusal::refusal;
 
@@ -48,76 +47,4 @@ fn a_rule_holds_where_nothing_is_missing() {
     println!("{tally:?}");
     // Every form's rule was met and was broken.
     assert_eq!(tally.len(), 28, "{tally:?}");
-}
-
-/// All documents with one member of one set taken out.
-fn one_less(document: &Document) -> Vec<Document> {
-    let mut all = vec![];
-    let flows = document.flows.len();
-    for index in 0..flows + document.comms.len() {
-        let old = match document.flows.get(index) {
-            Some(flow) => &flow.set,
-            None => &document.comms[index - flows].set,
-        };
-        let mut smaller = vec![];
-        for row in &old.rows {
-            let mut set = old.clone();
-            set.rows.remove(row);
-            smaller.push(set);
-        }
-        if old.unit {
-            let mut set = old.clone();
-            set.unit = false;
-            smaller.push(set);
-        }
-        for set in smaller {
-            let mut less = document.clone();
-            match less.flows.get_mut(index) {
-                Some(flow) => flow.set = set,
-                None => less.comms[index - flows].set = set,
-            }
-            all.push(less);
-        }
-    }
-    all
-}
-
-#[test]
-fn least_tables_are_least() {
-    let mut random = Random::new(42);
-    let mut tried = 0;
-    for _ in 0..3_000 {
-        let size = Size {
-            rows: 4 + random.below(20),
-            names: 60,
-        };
-        let document = least_document(&mut random, size);
-        assert_eq!(judge(&document), Ok(0));
-        for less in one_less(&document) {
-            assert_eq!(judge(&less).map_err(|r| r.number), Err(10));
-            tried += 1;
-        }
-    }
-    println!("{tried} members taken out");
-}
-
-#[test]
-fn least_tables_lie_in_any_that_keep_the_rules() {
-    let mut random = Random::new(43);
-    for _ in 0..5_000 {
-        let size = Size {
-            rows: 4 + random.below(30),
-            names: 80,
-        };
-        let wide = wide_document(&mut random, size);
-        assert_eq!(judge(&wide), Ok(0));
-        let mut least = wide.clone();
-        Tables::empty().close(&wide.rows).put(&mut least);
-        for flow in &least.flows {
-            assert!(flow.set.lies_in(wide.values(flow.name)));
-        }
-        for comm in &least.comms {
-            assert!(comm.set.lies_in(wide.messages(comm.channel)));
-        }
-    }
 }

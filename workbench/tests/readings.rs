@@ -1,10 +1,11 @@
-//! The readings of open places, items 1 to 22, as far as documents show them: by
+//! The readings of open places, items 1 to 23, as far as documents show them: by
 //! the reference, with which the library is compared on every file.
 
 use workbench::differential::{compare_file, Tally};
 use workbench::generate::{chain, file_of_length, Random};
 use workbench::reference::check::{self, judge, verdict};
 use workbench::reference::document::{Document, LAST_NUMBER, MAX_FILE_BYTES};
+use workbench::reference::infer::infer;
 use workbench::reference::print::print;
 use workbench::reference::refusal::{refusal, Refusal};
 use workbench::reference::steps::{can_share_run, is_walk, part_at_spawn, steps};
@@ -560,6 +561,11 @@ fn item_18_lines_of_10_and_11() {
     // The first claim that fails, after 10.
     let without = lines(&rows).replace("[flow 4 [u]]\n", "");
     assert_eq!(report(without.as_bytes()), "[refused 10 6]\n");
+    // After infer it moves with the number of sets that are not empty.
+    let wide = lines(&rows).replace("[comm 1 [0]]\n", "[comm 0 [u]]\n[comm 1 [0]]\n");
+    let wide = load(wide.as_bytes()).unwrap();
+    assert_eq!(judge(&wide), Err(refusal(11, 16)));
+    assert_eq!(judge(&infer(&wide)), Err(refusal(11, 15)));
 }
 
 #[test]
@@ -710,4 +716,30 @@ fn item_22_places_that_no_walk_reaches() {
         report(lines(&rows).as_bytes()),
         "[accepted 1]\n[channel 0 [yes yes yes yes]]\n"
     );
+}
+
+#[test]
+fn item_23_smallest_tables_over_all_rows() {
+    // The rows of a body that nothing applies have their sets too. Nothing is
+    // handed to its parameter, so nothing is sent, and there is no line for
+    // either, nor for what the sync gives.
+    let rows = [
+        "[row 0 [bind 0 [chan] 1]]",
+        "[row 1 [bind 1 [fun 2 3 2] 5]]",
+        "[row 2 [bind 4 [send 3 0] 3]]",
+        "[row 3 [bind 5 [sync 4] 4]]",
+        "[row 4 [result 5]]",
+        "[row 5 [result 0]]",
+        "[claim 0 one-shot]",
+    ];
+    let document = load(lines(&rows).as_bytes()).unwrap();
+    assert_eq!(judge(&document), Err(refusal(10, 2)));
+    let tables = "[flow 0 [0]]\n[flow 1 [1]]\n[flow 2 [1]]\n[flow 4 [2]]\n[claim";
+    let smallest = lines(&rows).replace("[claim", tables);
+    let outcome = infer(&document);
+    assert_eq!(print(&outcome), smallest.as_bytes());
+    assert_eq!(check::counts(&outcome), [6, 4, 0, 1]);
+    // It has its smallest tables now, and keeps them.
+    assert_eq!(load(smallest.as_bytes()), Ok(infer(&outcome)));
+    assert_eq!(judge(&outcome), Ok(1));
 }

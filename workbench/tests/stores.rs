@@ -13,7 +13,8 @@ use workbench::reference::document::{Document, MAX_FILE_BYTES};
 use workbench::reference::print::print;
 use workbench::samples::{A, TWO_SENDERS};
 
-/// Compares so many stores of a kind; judge must have given each number.
+/// Compares so many stores of a kind; judge must have given each number, and
+/// infer was refused as often as judge was for the store's sake.
 fn compare(kind: StoreKind, cases: usize, judge: &[u8]) -> Tally {
     let mut random = Random::new(200 + kind as u64);
     let mut tally = Tally::default();
@@ -25,8 +26,9 @@ fn compare(kind: StoreKind, cases: usize, judge: &[u8]) -> Tally {
         }
     }
     println!("{kind:?}: {:?}", tally.answers);
-    for &number in judge {
-        assert!(tally.count("judge", number) > 0, "no judge gave {number}");
+    tally.expect("judge", judge);
+    for number in [20, 21, 22] {
+        assert_eq!(tally.count("infer", number), tally.count("judge", number));
     }
     tally
 }
@@ -75,6 +77,11 @@ fn few_bytes_in_zeros() {
 #[test]
 fn other_lengths() {
     compare(StoreKind::Length, 300, &[0, 20]);
+}
+
+#[test]
+fn programs_whose_smallest_tables_are_hard_to_find() {
+    compare(StoreKind::Hardest, 400, &[10]);
 }
 
 /// A program of middle size, with tables and claims.
@@ -127,7 +134,9 @@ fn every_byte_of_the_first_rows() {
         }
         store[offset] = byte;
     }
-    assert!(tally.count("judge", 0) > 100 && tally.count("judge", 22) > 10_000);
+    for call in ["judge", "infer"] {
+        assert!(tally.count(call, 0) > 100 && tally.count(call, 22) > 10_000);
+    }
 }
 
 #[test]
@@ -148,8 +157,11 @@ fn every_length_around_the_fixed_size() {
         compare_store(&vec![0; length], &[0], &mut tally).unwrap();
     }
     assert_eq!(tally.count("load", 20), 3 * 150);
-    assert_eq!(tally.count("judge", 0), 130);
-    assert_eq!(tally.count("judge", 21), 130);
+    for call in ["judge", "infer"] {
+        assert_eq!(tally.count(call, 0), 130);
+        assert_eq!(tally.count(call, 20), 2 * 150);
+        assert_eq!(tally.count(call, 21), 130);
+    }
 }
 
 #[test]

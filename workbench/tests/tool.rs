@@ -4,7 +4,11 @@ use std::io::Write;
 use std::path::PathBuf;
 use std::process::{Command, Output, Stdio};
 
-use workbench::samples::{a_with, A, LOOP, TWO_RECEIVERS, TWO_SENDERS};
+use workbench::generate::hardest;
+use workbench::reference::print::print;
+use workbench::samples::{
+    a_with, a_without_tables, A, LOOP, RELAY, SERVER, TWO_RECEIVERS, TWO_SENDERS, UNPACKING,
+};
 
 /// A folder of its own for each test, with files in it.
 struct Folder {
@@ -69,8 +73,104 @@ f: refused 10 at line 6: the tables break the flow rule of this row
   Missing from the set of name 4: unit (`u`); it has no line, so it is empty.
   This sync takes name 3, which may be recv row 3, whose channel, name 1, may be chan row 1; \
 so the set of messages of channel row 1 must lie in the set of name 4.
+  `workbench infer FILE` prints the file with the smallest tables that keep the flow rules.
 "
     );
+}
+
+/// What `infer` prints for one file, which must have status 0 and no more to say.
+fn inferred(test: &str, content: impl AsRef<[u8]>, words: &[&str]) -> String {
+    let folder = Folder::new(test);
+    let output = folder
+        .put("f", content)
+        .run(&[&["infer"], words, &["f"]].concat());
+    assert_eq!(output.status.code(), Some(0));
+    assert!(output.stderr.is_empty(), "{}", text(&output.stderr));
+    text(&output.stdout).to_string()
+}
+
+#[test]
+fn infer_prints_the_file_with_its_smallest_tables() {
+    assert_eq!(inferred("infer", A, &[]), A);
+    assert_eq!(inferred("infer", a_without_tables(), &[]), A);
+    let wide = a_with("[flow 4 [u]]", "[flow 4 [u 1 6]]");
+    assert_eq!(inferred("infer", wide, &[]), A);
+}
+
+#[test]
+fn infer_shows_what_changes_set_by_set() {
+    assert_eq!(inferred("diff", A, &["--diff"]), "no set changed\n");
+    let other = a_with("[flow 3 [3]]", "[flow 3 [u 1 6]]").replace("[comm 1 [u]]\n", "");
+    assert_eq!(
+        inferred("diff", &other, &["--diff"]),
+        "\
+[flow 3 [u 1 6]] -> [flow 3 [3]]
+  went: u 1 6
+  came: 3
+[comm 1 []] -> [comm 1 [u]]
+  came: u
+2 sets changed
+"
+    );
+    let unused = A.replace("[flow 4 [u]]", "[flow 4 [u 3]]");
+    assert_eq!(
+        inferred("diff", unused, &["--diff"]),
+        "[flow 4 [u 3]] -> [flow 4 [u]]\n  went: 3\n1 set changed\n"
+    );
+    // A channel that nothing is sent on has no line.
+    let unsent = a_with("[row 7 [bind 6 [sync 5] 8]]", "[row 7 [bind 6 [unit] 8]]");
+    assert_eq!(
+        inferred("diff", unsent, &["--diff"]),
+        "\
+[flow 4 [u]] -> [flow 4 []]
+  went: u
+[comm 1 [u]] -> [comm 1 []]
+  went: u
+2 sets changed
+"
+    );
+}
+
+#[test]
+fn infer_completes_samples_without_tables() {
+    for sample in [SERVER, RELAY, UNPACKING] {
+        let before = refused("complete", sample);
+        assert!(before.starts_with("f: refused 10 at line "), "{before}");
+        let complete = inferred("complete", sample, &[]);
+        let folder = Folder::new("complete");
+        let output = folder.put("complete", complete).run(&["check", "complete"]);
+        assert_eq!(output.status.code(), Some(0));
+        assert!(text(&output.stdout).starts_with("complete: accepted, no claim to judge\n"));
+    }
+}
+
+#[test]
+fn infer_refuses_as_check_does_but_on_standard_error() {
+    let folder = Folder::new("infer refused");
+    folder.put("f", a_with("[row 8 [result 6]]", "[row 8 [result 3]]"));
+    for file in ["f", "gone"] {
+        let check = folder.run(&["check", file]);
+        for words in [&["infer", file] as &[&str], &["infer", "--diff", file]] {
+            let infer = folder.run(words);
+            assert_eq!(infer.status.code(), check.status.code());
+            assert!(infer.stdout.is_empty());
+            assert_eq!(text(&infer.stderr), text(&check.stdout));
+        }
+    }
+}
+
+#[test]
+fn infer_tells_of_a_text_that_is_too_long_for_a_file() {
+    let mut long = 0;
+    for (_, document) in hardest() {
+        let folder = Folder::new("infer long");
+        let output = folder.put("f", print(&document)).run(&["infer", "f"]);
+        assert_eq!(output.status.code(), Some(0));
+        let told = text(&output.stderr).contains("no file of more than 32768 can be loaded");
+        assert_eq!(told, output.stdout.len() > 32_768);
+        long += usize::from(told);
+    }
+    assert!(long > 0);
 }
 
 #[test]
@@ -265,6 +365,10 @@ fn json_for_machines() {
         lines[2],
         r#"{"file": "no-such", "error": "there is no such file"}"#
     );
+    let rule = folder
+        .put("f", a_with("[flow 4 [u]]", ""))
+        .run(&["check", "--json", "f"]);
+    assert!(text(&rule.stdout).contains(r#", "hint": "`workbench infer FILE` prints"#));
 }
 
 #[test]
@@ -280,12 +384,16 @@ fn the_status_is_the_worst_of_all_files() {
 #[test]
 fn bad_usage_is_told() {
     let folder = Folder::new("usage");
-    let cases: [(&[&str], &str); 5] = [
+    let cases: [(&[&str], &str); 9] = [
         (&[], "no command given"),
         (&["check"], "no file given"),
         (&["check", "--json"], "no file given"),
         (&["chekc", "f"], "unknown command `chekc`"),
         (&["check", "--colour", "f"], "unknown option `--colour`"),
+        (&["check", "--diff", "f"], "unknown option `--diff`"),
+        (&["infer"], "no file given"),
+        (&["infer", "--json", "f"], "unknown option `--json`"),
+        (&["infer", "f", "g"], "infer takes one file, not 2"),
     ];
     for (words, message) in cases {
         let output = folder.run(words);
@@ -297,9 +405,15 @@ fn bad_usage_is_told() {
             "{stderr}"
         );
     }
-    let help = folder.run(&["--help"]);
-    assert_eq!(help.status.code(), Some(0));
-    assert!(text(&help.stdout).starts_with("usage: workbench check"));
+    for words in [
+        &["--help"] as &[&str],
+        &["check", "-h"],
+        &["infer", "--help"],
+    ] {
+        let help = folder.run(words);
+        assert_eq!(help.status.code(), Some(0));
+        assert!(text(&help.stdout).starts_with("usage: workbench check"));
+    }
 }
 
 #[test]
@@ -347,16 +461,22 @@ fn a_long_line_is_cut_around_its_fault() {
 
 #[test]
 fn standard_input_is_the_file_named_by_a_dash() {
-    let mut child = Command::new(env!("CARGO_BIN_EXE_workbench"))
-        .args(["check", "-"])
-        .stdin(Stdio::piped())
-        .stdout(Stdio::piped())
-        .spawn()
-        .unwrap();
-    child.stdin.take().unwrap().write_all(A.as_bytes()).unwrap();
-    let output = child.wait_with_output().unwrap();
-    assert_eq!(output.status.code(), Some(0));
-    assert!(text(&output.stdout).starts_with("-: accepted, 1 claim holds\n"));
+    let printed = |command: &str, input: &str| {
+        let mut child = Command::new(env!("CARGO_BIN_EXE_workbench"))
+            .args([command, "-"])
+            .stdin(Stdio::piped())
+            .stdout(Stdio::piped())
+            .spawn()
+            .unwrap();
+        let mut stdin = child.stdin.take().unwrap();
+        stdin.write_all(input.as_bytes()).unwrap();
+        drop(stdin);
+        let output = child.wait_with_output().unwrap();
+        assert_eq!(output.status.code(), Some(0));
+        text(&output.stdout).to_string()
+    };
+    assert!(printed("check", A).starts_with("-: accepted, 1 claim holds\n"));
+    assert_eq!(printed("infer", &a_without_tables()), A);
 }
 
 #[test]

@@ -17,6 +17,22 @@ impl Bits {
         bits
     }
 
+    /// Puts a flag for each place, 1 for those in the set.
+    pub fn to_flags(self, flags: &mut [u8]) {
+        const ONES: u64 = 0x0101_0101_0101_0101;
+        for (index, eight) in flags.chunks_mut(8).enumerate() {
+            let byte = self.0[index / 8] >> (8 * (index % 8)) & 0xff;
+            // Byte i keeps bit i, and then has 1 for whatever it kept.
+            let kept = (byte * ONES) & 0x8040_2010_0804_0201;
+            let flags = (kept + 0x7f * ONES) >> 7 & ONES;
+            eight.copy_from_slice(&flags.to_le_bytes()[..eight.len()]);
+        }
+    }
+
+    pub fn is_empty(self) -> bool {
+        self == Bits::default()
+    }
+
     pub fn has(self, number: usize) -> bool {
         self.0[number / 64] >> (number % 64) & 1 == 1
     }
@@ -36,11 +52,16 @@ impl Bits {
         }
     }
 
+    /// The numbers that another set lacks.
+    pub fn without(mut self, other: Bits) -> Bits {
+        for (word, other) in self.0.iter_mut().zip(other.0) {
+            *word &= !other;
+        }
+        self
+    }
+
     pub fn lies_in(self, other: Bits) -> bool {
-        self.0
-            .iter()
-            .zip(other.0)
-            .all(|(word, other)| word & !other == 0)
+        self.without(other).is_empty()
     }
 
     pub fn meets(self, other: Bits) -> bool {

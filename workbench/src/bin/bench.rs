@@ -1,4 +1,4 @@
-//! The proved library against the reference and a judge written for speed, call
+//! The proved library against the reference and what is written for speed, call
 //! by call on the same inputs in the same run: `bench`.
 
 use std::hint::black_box;
@@ -6,10 +6,11 @@ use std::time::{Duration, Instant};
 
 use workbench::baseline;
 use workbench::checker::ffi;
-use workbench::generate::{dense, file_of_length, shared, workers, Random};
-use workbench::layout::{encode, STORE_SIZE};
+use workbench::generate::{dense, file_of_length, hardest, shared, workers, Random};
+use workbench::layout::{encode, LONGEST_TEXT, STORE_SIZE};
 use workbench::reference::check;
 use workbench::reference::document::{Document, MAX_FILE_BYTES, NUMBER_LIMIT};
+use workbench::reference::infer::infer;
 use workbench::reference::print::print;
 use workbench::samples::A;
 
@@ -25,12 +26,13 @@ library    the proved C functions on a lent store of 52,960 bytes; each call but
            load tests the store's bytes anew (20 to 22)
 reference  the Rust of src/reference, written to be read: load makes a document
            of vectors and ordered sets, the other calls take that document
-fast       the Rust of src/baseline.rs, written for speed: judge and verdict over
-           sets of bits, on the same store, whose bytes it does not test
+fast       the Rust of src/baseline.rs, written for speed: judge, verdict and infer
+           over sets of bits, on the same store, whose bytes it does not test
 
 All is compiled with optimization, runs in this process and takes the same input.
 Buffers are not cleared between calls: a load finds the store as the load before
-left it (and clears it itself), a write finds the text of the write before.
+left it (and clears it itself), a write finds the text of the write before, an
+infer finds the tables of the infer before, but the reference those of the input.
 Verdicts are one call for each chan row. Times are the best of 3 to 31
 measurements, taken in turn. A ratio is the library's time to the other's, below 1
 if the library is faster; its spread is that of the middle half of the single
@@ -178,12 +180,24 @@ fn bench(input: &Input) {
         &mut || each(&|channel| keep(baseline::verdict(black_box(store), channel))),
     ]);
     show(name, "verdicts", &samples);
-    let mut out = vec![0; 4 * MAX_FILE_BYTES];
+    let mut out = vec![0; LONGEST_TEXT];
     let samples = measure(&mut [
         &mut || keep(ffi::write(black_box(store), &mut out)),
         &mut || keep(check::write(black_box(document))),
     ]);
     show(name, "write", &samples);
+    bench_infer(input);
+}
+
+/// Measures infer on one input.
+fn bench_infer(input: &Input) {
+    let (mut store, mut other) = (input.store.clone(), input.store.clone());
+    let samples = measure(&mut [
+        &mut || keep(ffi::infer(black_box(&mut store))),
+        &mut || keep(infer(black_box(&input.document))),
+        &mut || keep(baseline::infer(black_box(&mut other))),
+    ]);
+    show(&input.name, "infer", &samples);
 }
 
 /// Says what is in the inputs, so that the table can be read.
@@ -197,6 +211,15 @@ fn describe(inputs: &[Input]) {
              {channels} channels, {bytes} bytes",
             input.name
         );
+        let outcome = infer(&input.document);
+        if outcome != input.document {
+            let [_, flows, comms, _] = check::counts(&outcome);
+            let bytes = print(&outcome).len();
+            println!(
+                "{:<24} after infer {flows} flows, {comms} comms, {bytes} bytes",
+                ""
+            );
+        }
     }
     println!();
 }
@@ -217,6 +240,13 @@ fn head() {
     );
 }
 
+/// One table: the inputs, and what was measured on each.
+fn table(inputs: &[Input], bench: fn(&Input)) {
+    describe(inputs);
+    head();
+    inputs.iter().for_each(bench);
+}
+
 fn main() {
     println!("{ABOUT}");
     let largest = file_of_length(&mut Random::new(1), MAX_FILE_BYTES);
@@ -227,15 +257,14 @@ fn main() {
         Input::new("hardest sync rules", shared(NUMBER_LIMIT)),
         Input::new("densest tables", dense()),
     ];
-    describe(&inputs);
-    head();
-    inputs.iter().for_each(bench);
+    table(&inputs, bench);
     println!("\nGrowth with rows\n");
     let sizes = [20, 40, 80, NUMBER_LIMIT];
     let typical = sizes.map(|rows| Input::new(&format!("workers, {rows} rows"), workers(rows)));
-    let hardest = sizes.map(|rows| Input::new(&format!("sync rules, {rows} rows"), shared(rows)));
-    let inputs: Vec<Input> = typical.into_iter().chain(hardest).collect();
-    describe(&inputs);
-    head();
-    inputs.iter().for_each(bench);
+    let syncs = sizes.map(|rows| Input::new(&format!("sync rules, {rows} rows"), shared(rows)));
+    let inputs: Vec<Input> = typical.into_iter().chain(syncs).collect();
+    table(&inputs, bench);
+    println!("\nPrograms whose smallest tables are the hardest to find\n");
+    let inputs = hardest().map(|(name, document)| Input::new(name, document));
+    table(&inputs, bench_infer);
 }

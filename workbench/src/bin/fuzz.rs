@@ -51,7 +51,7 @@ fn main() -> ExitCode {
             0 => "accepted".to_string(),
             _ => format!("refused {number}"),
         };
-        println!("{call:8} {answer:12} {count:>10}");
+        println!("{call:18} {answer:12} {count:>10}");
     }
     ExitCode::SUCCESS
 }

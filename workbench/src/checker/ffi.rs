@@ -11,6 +11,7 @@ extern "C" {
         store: *mut c_uchar,
         store_len: usize,
     ) -> u64;
+    fn dispenser_infer(store: *mut c_uchar, store_len: usize) -> u64;
     fn dispenser_judge(store: *const c_uchar, store_len: usize) -> u64;
     fn dispenser_verdict(store: *const c_uchar, store_len: usize, channel: usize) -> u64;
     fn dispenser_write(
@@ -30,7 +31,7 @@ extern "C" {
     ) -> u64;
 }
 
-// SAFETY, of all seven: pointer and length come from one slice, which stays
+// SAFETY, of all eight: pointer and length come from one slice, which stays
 // borrowed for the call, mutably where the function writes; the functions touch
 // no other memory and keep no pointer (promise 1).
 
@@ -42,6 +43,11 @@ pub fn store_size() -> u64 {
 /// Loads a file into a store.
 pub fn load(file: &[u8], store: &mut [u8]) -> u64 {
     unsafe { dispenser_load(file.as_ptr(), file.len(), store.as_mut_ptr(), store.len()) }
+}
+
+/// Puts the smallest tables in place of a store's own.
+pub fn infer(store: &mut [u8]) -> u64 {
+    unsafe { dispenser_infer(store.as_mut_ptr(), store.len()) }
 }
 
 /// Judges a store.

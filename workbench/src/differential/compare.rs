@@ -4,7 +4,7 @@ use std::collections::BTreeMap;
 
 use super::expected::{self, open};
 use super::lent::Lent;
-use crate::checker::ffi;
+use crate::checker::{ffi, Reason};
 use crate::generate::Random;
 use crate::layout::STORE_SIZE;
 use crate::reference::check;
@@ -24,6 +24,13 @@ impl Tally {
     /// How often a call answered with a number, 0 for accepted.
     pub fn count(&self, call: &'static str, number: u8) -> usize {
         self.answers.get(&(call, number)).copied().unwrap_or(0)
+    }
+
+    /// Panics unless the call gave each of the numbers.
+    pub fn expect(&self, call: &'static str, numbers: &[u8]) {
+        for &number in numbers {
+            assert!(self.count(call, number) > 0, "no {call} gave {number}");
+        }
     }
 }
 
@@ -64,8 +71,8 @@ pub fn compare_load(file: &[u8], before: &[u8], tally: &mut Tally) -> Result<Vec
     Ok(after)
 }
 
-/// Compares judge, the verdict of each of the numbers, and write, on a store of
-/// any bytes. Whatever write accepts must load back to the same bytes.
+/// Compares judge, the verdict of each of the numbers, write and infer, on a
+/// store of any bytes. Whatever write accepts must load back to the same bytes.
 pub fn compare_store(store: &[u8], numbers: &[usize], tally: &mut Tally) -> Result<(), String> {
     let lent = Lent::holding(store);
     let opened = open(store);
@@ -79,7 +86,31 @@ pub fn compare_store(store: &[u8], numbers: &[usize], tally: &mut Tally) -> Resu
         same_answer(&call, answer, expected::verdict(&opened, number))?;
     }
     same_bytes("judge or verdict", "store", &lent, store)?;
-    compare_write(&lent, &opened, tally)
+    compare_write(&lent, &opened, tally)?;
+    compare_infer(store, &opened, tally)
+}
+
+/// Compares infer on a store of any bytes, and again on what it leaves, which
+/// must then stay as it is and keep the flow rules.
+fn compare_infer(
+    store: &[u8],
+    opened: &Result<Document, u64>,
+    tally: &mut Tally,
+) -> Result<(), String> {
+    let (expected, after) = expected::infer(opened, store);
+    let mut lent = Lent::holding(store);
+    for call in ["infer", "infer after infer"] {
+        let answer = ffi::infer(lent.content_mut());
+        tally.add(call, answer);
+        same_answer(call, answer, expected)?;
+        same_bytes(call, "store", &lent, &after)?;
+    }
+    let judged = ffi::judge(lent.content());
+    tally.add("judge after infer", judged);
+    if judged as u8 == Reason::FlowRule.number() {
+        return Err("judge answers 10 after infer".to_string());
+    }
+    Ok(())
 }
 
 /// Compares write into outputs too short, just long enough and longer.

@@ -3,6 +3,7 @@
 use crate::layout::{decode, encode, STORE_SIZE};
 use crate::reference::check;
 use crate::reference::document::Document;
+use crate::reference::infer;
 use crate::reference::refusal::Refusal;
 
 pub const STORE_TOO_SHORT: u64 = 20;
@@ -18,13 +19,16 @@ fn answer(outcome: Result<u64, Refusal>) -> u64 {
     }
 }
 
+/// The counts of a document's lines, 8 bits each, lowest first.
+fn packed_counts(document: &Document) -> u64 {
+    let counts = check::counts(document);
+    let parts = counts.iter().rev();
+    parts.fold(0, |sum, &count| sum << 8 | count as u64)
+}
+
 /// What load answers on a long enough store.
 pub fn load_answer(loaded: &Result<Document, Refusal>) -> u64 {
-    let counts = loaded.as_ref().map(check::counts).map_err(|r| *r);
-    answer(counts.map(|counts| {
-        let parts = counts.iter().rev();
-        parts.fold(0, |sum, &count| sum << 8 | count as u64)
-    }))
+    answer(loaded.as_ref().map(packed_counts).map_err(|r| *r))
 }
 
 /// What load answers, and what it leaves of a store.
@@ -47,6 +51,17 @@ pub fn open(store: &[u8]) -> Result<Document, u64> {
         return Err(STORE_EMPTY);
     }
     decode(fixed).ok_or(STORE_UNSOUND)
+}
+
+/// What infer answers, and what it leaves of a store.
+pub fn infer(opened: &Result<Document, u64>, store: &[u8]) -> (u64, Vec<u8>) {
+    match opened.as_ref().map(infer::infer) {
+        Ok(document) => {
+            let after = [&encode(&document), &store[STORE_SIZE..]].concat();
+            (answer(Ok(packed_counts(&document))), after)
+        }
+        Err(refused) => (*refused, store.to_vec()),
+    }
 }
 
 /// What judge answers.

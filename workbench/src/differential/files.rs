@@ -1,9 +1,9 @@
 //! Files to compare the library on.
 
 use crate::generate::{
-    accepted_document, claim_anything, crowded_document, damage, damaged_file, edit_byte,
-    edit_lines, file_of_length, full_document, loadable_document, loose_document, structural_file,
-    wide_document, Random, Size,
+    accepted_document, bare_document, claim_anything, crowded_document, damage, damaged_file,
+    edit_byte, edit_lines, file_of_length, full_document, loadable_document, loose_document,
+    structural_file, wide_document, Random, Size,
 };
 use crate::reference::document::{LAST_NUMBER, MAX_FILE_BYTES, NUMBER_LIMIT};
 use crate::reference::print::print;
@@ -35,10 +35,12 @@ pub enum FileKind {
     ByteLimit,
     /// Pieces of lines in any order.
     Pieces,
+    /// It has no tables.
+    Bare,
 }
 
 impl FileKind {
-    pub const ALL: [FileKind; 12] = [
+    pub const ALL: [FileKind; 13] = [
         FileKind::Accepted,
         FileKind::Loadable,
         FileKind::Wide,
@@ -51,6 +53,7 @@ impl FileKind {
         FileKind::RowLimit,
         FileKind::ByteLimit,
         FileKind::Pieces,
+        FileKind::Bare,
     ];
 }
 
@@ -71,8 +74,9 @@ pub fn draw_file(random: &mut Random, kind: FileKind) -> Vec<u8> {
     match kind {
         FileKind::Accepted => print(&accepted_document(random, size)),
         FileKind::Loadable => print(&loadable_document(random, size)),
-        FileKind::Wide | FileKind::Crowded | FileKind::Loose => {
+        FileKind::Bare | FileKind::Wide | FileKind::Crowded | FileKind::Loose => {
             let mut document = match kind {
+                FileKind::Bare => bare_document(random, size),
                 FileKind::Wide => wide_document(random, size),
                 FileKind::Crowded => crowded_document(random, size),
                 _ => loose_document(random, size),

@@ -3,8 +3,8 @@
 use super::lent::Lent;
 use crate::checker::ffi;
 use crate::generate::{
-    accepted_document, claim_anything, full_document, loadable_document, loose_document, widen,
-    Random, Size, Tables,
+    accepted_document, claim_anything, full_document, loadable_document, loose_document, sharing,
+    takers, unwinding, widen, Random, Size, Tables,
 };
 use crate::layout::{encode, STORE_SIZE};
 use crate::reference::document::{Document, LAST_NUMBER};
@@ -29,10 +29,12 @@ pub enum StoreKind {
     Sparse,
     /// A loaded store of another length.
     Length,
+    /// A program whose smallest tables are hard to find, with any tables.
+    Hardest,
 }
 
 impl StoreKind {
-    pub const ALL: [StoreKind; 8] = [
+    pub const ALL: [StoreKind; 9] = [
         StoreKind::Loaded,
         StoreKind::OneByte,
         StoreKind::FewBytes,
@@ -41,6 +43,7 @@ impl StoreKind {
         StoreKind::Random,
         StoreKind::Sparse,
         StoreKind::Length,
+        StoreKind::Hardest,
     ];
 }
 
@@ -69,6 +72,25 @@ fn long_document(random: &mut Random) -> Document {
     let mut document = full_document(random);
     let mut tables = Tables::of(&document);
     let count = random.below(40_000);
+    widen(random, &document.rows, &mut tables, count);
+    tables.put(&mut document);
+    claim_anything(random, &mut document);
+    document
+}
+
+/// A program whose smallest tables are hard to find, of any size, with any
+/// tables that a store may hold.
+fn hardest_document(random: &mut Random) -> Document {
+    let mut document = match random.below(3) {
+        0 => unwinding(random.below(16), random.below(6)),
+        1 => {
+            let mut count = || 1 + random.below(8);
+            sharing(count(), count(), count())
+        }
+        _ => takers(1 + random.below(10)),
+    };
+    let mut tables = Tables::empty();
+    let count = random.below(100);
     widen(random, &document.rows, &mut tables, count);
     tables.put(&mut document);
     claim_anything(random, &mut document);
@@ -135,5 +157,6 @@ pub fn draw_store(random: &mut Random, kind: StoreKind) -> Vec<u8> {
             store.resize_with(length, || random.draw() as u8);
             store
         }
+        StoreKind::Hardest => encode(&hardest_document(random)),
     }
 }

@@ -1,42 +1,18 @@
 //! Refusal 10: which member is missing from which set, and why it must be there.
 
 use super::Explanation;
-use crate::reference::document::{Bind, Document, Form, Name, Set};
+use crate::reference::document::{Bind, Document, Form, Name, Set, Table};
 use crate::reference::flow::chan_rows_in;
-use crate::reference::print::{print, set_text};
+use crate::reference::print::{print, table_text};
 use crate::text::lines;
 
-/// One of the tables' sets.
-#[derive(Clone, Copy, Debug, PartialEq, Eq)]
-pub enum Table {
-    /// V(n), the set of a name.
-    Values(Name),
-    /// C(c), the set of messages of a channel row.
-    Messages(usize),
-}
+const HINT: &str =
+    "`workbench infer FILE` prints the file with the smallest tables that keep the flow rules.";
 
-impl Table {
-    pub fn set(self, document: &Document) -> &Set {
-        match self {
-            Table::Values(name) => document.values(name),
-            Table::Messages(channel) => document.messages(channel),
-        }
-    }
-
-    fn in_words(self) -> String {
-        match self {
-            Table::Values(name) => format!("the set of name {name}"),
-            Table::Messages(channel) => format!("the set of messages of channel row {channel}"),
-        }
-    }
-
-    /// The line that gives the set, if it is not empty.
-    fn line(self, document: &Document) -> String {
-        let set = set_text(self.set(document));
-        match self {
-            Table::Values(name) => format!("[flow {name} {set}]"),
-            Table::Messages(channel) => format!("[comm {channel} {set}]"),
-        }
+fn in_words(table: Table) -> String {
+    match table {
+        Table::Values(name) => format!("the set of name {name}"),
+        Table::Messages(channel) => format!("the set of messages of channel row {channel}"),
     }
 }
 
@@ -51,11 +27,7 @@ pub struct Demand {
 impl Demand {
     /// The members that the set lacks.
     pub fn missing(&self, document: &Document) -> Set {
-        let held = self.table.set(document);
-        Set {
-            unit: self.members.unit && !held.unit,
-            rows: self.members.rows.difference(&held.rows).copied().collect(),
-        }
+        self.members.without(document.set(self.table))
     }
 }
 
@@ -151,7 +123,7 @@ fn unpacked(
         };
         for (from, table) in fed(form) {
             let other = form.word();
-            let into = table.in_words();
+            let into = in_words(table);
             demands.push(Demand {
                 members: document.values(from).clone(),
                 table,
@@ -195,12 +167,12 @@ fn sync(document: &Document, bind: &Bind, event: Name) -> Vec<Demand> {
                     demand(unit(), bound, "the sender's name gets unit".to_string());
                     let so = format!(
                         "the set of the message, name {message}, must lie in {}",
-                        messages.in_words()
+                        in_words(messages)
                     );
                     demand(document.values(message).clone(), messages, so);
                 }
                 None => {
-                    let (from, into) = (messages.in_words(), bound.in_words());
+                    let (from, into) = (in_words(messages), in_words(bound));
                     let so = format!("{from} must lie in {into}");
                     demand(document.messages(c).clone(), bound, so);
                 }
@@ -219,11 +191,12 @@ pub fn rule(document: &Document, line: usize) -> Option<Explanation> {
     let unit = missing.unit.then(|| "unit (`u`)".to_string());
     let rows = missing.rows.iter().map(|row| format!("row {row}"));
     let missing: Vec<String> = unit.into_iter().chain(rows).collect();
-    let table = demand.table.in_words();
-    let held = if demand.table.set(document).is_empty() {
+    let table = in_words(demand.table);
+    let set = document.set(demand.table);
+    let held = if set.is_empty() {
         "it has no line, so it is empty".to_string()
     } else {
-        format!("its line is `{}`", demand.table.line(document))
+        format!("its line is `{}`", table_text(demand.table, set))
     };
     let why = vec![
         format!("Missing from {table}: {}; {held}.", missing.join(", ")),
@@ -234,5 +207,8 @@ pub fn rule(document: &Document, line: usize) -> Option<Explanation> {
     // The form stands between the third `[` and the first `]`.
     let mut brackets = (0..text.len()).filter(|&at| text[at] == b'[');
     let end = text.iter().position(|&byte| byte == b']')? + 1;
-    Some(Explanation::new(Some(brackets.nth(2)?..end), why))
+    Some(Explanation {
+        hint: Some(HINT),
+        ..Explanation::new(Some(brackets.nth(2)?..end), why)
+    })
 }

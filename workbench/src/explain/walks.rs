@@ -155,8 +155,7 @@ pub fn claim(document: &Document, line: usize) -> Option<Explanation> {
     let claim_text = lines[line - 1].trim_ascii_end();
     let mark = claim_text.len() - 1 - word.len()..claim_text.len() - 1;
     Some(Explanation {
-        mark: Some(mark),
-        why,
         walks: Some(walks),
+        ..Explanation::new(Some(mark), why)
     })
 }

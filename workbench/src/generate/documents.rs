@@ -4,12 +4,17 @@ use super::{narrow, program, widen, Random, Size, Tables};
 use crate::reference::document::{Claim, Document, Word};
 use crate::reference::verdict::{counted_pairs, places, verdict_of, word_holds, Verdict};
 
-/// A document with the least tables of a random program and no claims.
-pub fn least_document(random: &mut Random, size: Size) -> Document {
-    let mut document = Document {
+/// A document with the rows of a random program and nothing else.
+pub fn bare_document(random: &mut Random, size: Size) -> Document {
+    Document {
         rows: program(random, size),
         ..Document::default()
-    };
+    }
+}
+
+/// The same with the least tables.
+pub fn least_document(random: &mut Random, size: Size) -> Document {
+    let mut document = bare_document(random, size);
     Tables::empty().close(&document.rows).put(&mut document);
     document
 }
@@ -28,10 +33,7 @@ pub fn crowded_document(random: &mut Random, size: Size) -> Document {
 
 /// The least tables that hold so many random members more.
 fn widened(random: &mut Random, size: Size, count: usize) -> Document {
-    let mut document = Document {
-        rows: program(random, size),
-        ..Document::default()
-    };
+    let mut document = bare_document(random, size);
     let mut tables = Tables::empty();
     widen(random, &document.rows, &mut tables, count);
     tables.close(&document.rows).put(&mut document);
@@ -40,10 +42,7 @@ fn widened(random: &mut Random, size: Size, count: usize) -> Document {
 
 /// The same with any tables that load takes, mostly against the flow rules.
 pub fn loose_document(random: &mut Random, size: Size) -> Document {
-    let mut document = Document {
-        rows: program(random, size),
-        ..Document::default()
-    };
+    let mut document = bare_document(random, size);
     let mut tables = Tables::empty();
     if random.chance(1, 2) {
         tables = tables.close(&document.rows);

@@ -1,7 +1,10 @@
 //! Tables: the least ones by growing them, and wider and narrower ones.
+//!
+//! They grow in rounds over the rows, from any tables on. The reference's infer
+//! has another way, from none; the tests compare the two.
 
 use super::Random;
-use crate::reference::document::{Comm, Document, Flow, Form, Name, Row, Set, NUMBER_LIMIT};
+use crate::reference::document::{Document, Form, Name, Row, Set, Table, NUMBER_LIMIT};
 
 /// The sets of all names and channels, by number.
 #[derive(Clone)]
@@ -136,18 +139,11 @@ impl Tables {
 
     /// Puts the sets that are not empty into a document.
     pub fn put(&self, document: &mut Document) {
-        let filled = |sets: &[Set]| -> Vec<(usize, Set)> {
-            let sets = sets.iter().cloned().enumerate();
-            sets.filter(|(_, set)| !set.is_empty()).collect()
-        };
-        document.flows = filled(&self.values)
-            .into_iter()
-            .map(|(name, set)| Flow { name, set })
-            .collect();
-        document.comms = filled(&self.messages)
-            .into_iter()
-            .map(|(channel, set)| Comm { channel, set })
-            .collect();
+        let values = self.values.iter().cloned().enumerate();
+        let messages = self.messages.iter().cloned().enumerate();
+        let values = values.map(|(name, set)| (Table::Values(name), set));
+        let messages = messages.map(|(channel, set)| (Table::Messages(channel), set));
+        document.put_tables(values.chain(messages));
     }
 }
 

@@ -10,6 +10,7 @@
 //! - "Value rows are chan, send, recv, pair, left, right and fun".
 
 use std::collections::BTreeSet;
+use std::fmt;
 
 /// The greatest number of a row or a name.
 pub const LAST_NUMBER: usize = 159;
@@ -261,6 +262,22 @@ impl Row {
     }
 }
 
+/// A member of a set.
+#[derive(Clone, Copy, Debug, PartialEq, Eq, PartialOrd, Ord)]
+pub enum Member {
+    Unit,
+    Row(usize),
+}
+
+impl fmt::Display for Member {
+    fn fmt(&self, f: &mut fmt::Formatter<'_>) -> fmt::Result {
+        match self {
+            Member::Unit => f.write_str("u"),
+            Member::Row(row) => row.fmt(f),
+        }
+    }
+}
+
 /// A set of values: unit or not, and rows.
 #[derive(Clone, Debug, Default, PartialEq, Eq)]
 pub struct Set {
@@ -278,6 +295,44 @@ impl Set {
     /// Whether nothing is in the set.
     pub fn is_empty(&self) -> bool {
         !self.unit && self.rows.is_empty()
+    }
+
+    /// The members as they are written: unit first, then the rows, rising.
+    pub fn members(&self) -> impl Iterator<Item = Member> + '_ {
+        let unit = self.unit.then_some(Member::Unit);
+        unit.into_iter()
+            .chain(self.rows.iter().copied().map(Member::Row))
+    }
+
+    pub fn has(&self, member: Member) -> bool {
+        match member {
+            Member::Unit => self.unit,
+            Member::Row(row) => self.rows.contains(&row),
+        }
+    }
+
+    /// Puts a member in; whether it was not there yet.
+    pub fn insert(&mut self, member: Member) -> bool {
+        match member {
+            Member::Unit => !std::mem::replace(&mut self.unit, true),
+            Member::Row(row) => self.rows.insert(row),
+        }
+    }
+
+    /// Takes a member out; whether it was there.
+    pub fn remove(&mut self, member: Member) -> bool {
+        match member {
+            Member::Unit => std::mem::replace(&mut self.unit, false),
+            Member::Row(row) => self.rows.remove(&row),
+        }
+    }
+
+    /// The members that another set lacks.
+    pub fn without(&self, other: &Set) -> Set {
+        Set {
+            unit: self.unit && !other.unit,
+            rows: self.rows.difference(&other.rows).copied().collect(),
+        }
     }
 
     /// Whether the set lies in another.
@@ -316,6 +371,15 @@ impl Word {
             Word::Many => "many",
         }
     }
+}
+
+/// One of the tables' sets.
+#[derive(Clone, Copy, Debug, PartialEq, Eq, PartialOrd, Ord)]
+pub enum Table {
+    /// V(n), the set of a name.
+    Values(Name),
+    /// C(c), the set of messages of a channel row.
+    Messages(usize),
 }
 
 /// A flow line: the set of a name.
@@ -390,6 +454,35 @@ impl Document {
             .iter()
             .find(|comm| comm.channel == channel)
             .map_or(&EMPTY, |comm| &comm.set)
+    }
+
+    /// The set of either kind.
+    pub fn set(&self, table: Table) -> &Set {
+        match table {
+            Table::Values(name) => self.values(name),
+            Table::Messages(channel) => self.messages(channel),
+        }
+    }
+
+    /// The sets that have a line, in the order of the lines.
+    pub fn tables(&self) -> impl Iterator<Item = (Table, &Set)> {
+        let flows = self.flows.iter();
+        let comms = self.comms.iter();
+        let flows = flows.map(|flow| (Table::Values(flow.name), &flow.set));
+        flows.chain(comms.map(|comm| (Table::Messages(comm.channel), &comm.set)))
+    }
+
+    /// Puts other tables in place of the document's own, sets of the same kind
+    /// by rising numbers: a line for each that is not empty.
+    pub fn put_tables(&mut self, tables: impl IntoIterator<Item = (Table, Set)>) {
+        self.flows.clear();
+        self.comms.clear();
+        for (table, set) in tables.into_iter().filter(|(_, set)| !set.is_empty()) {
+            match table {
+                Table::Values(name) => self.flows.push(Flow { name, set }),
+                Table::Messages(channel) => self.comms.push(Comm { channel, set }),
+            }
+        }
     }
 
     /// "the one reached from it by rests": the result row of a branch or body.

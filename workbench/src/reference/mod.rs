@@ -1,10 +1,12 @@
-//! The reference: document 01 rendered sentence by sentence, clear before fast.
+//! The reference: document 01, and the landed requests of document 02, rendered
+//! sentence by sentence, clear before fast.
 //!
 //! It works on documents (lists of rows, sets and claims), not on a byte store.
 
 pub mod check;
 pub mod document;
 pub mod flow;
+pub mod infer;
 pub mod print;
 pub mod read;
 pub mod refusal;

@@ -5,7 +5,7 @@
 //! and of the fourteen forms, and "A set holds `u` (unit) first if at all, then
 //! rising row numbers".
 
-use super::document::{Document, Form, Row, Set};
+use super::document::{Document, Form, Row, Set, Table};
 
 /// The first line of every file.
 pub const HEADER: &str = "[dispenser 1]\n";
@@ -16,11 +16,8 @@ pub fn print(document: &Document) -> Vec<u8> {
     for (number, row) in document.rows.iter().enumerate() {
         text += &format!("[row {number} {}]\n", row_text(row));
     }
-    for flow in &document.flows {
-        text += &format!("[flow {} {}]\n", flow.name, set_text(&flow.set));
-    }
-    for comm in &document.comms {
-        text += &format!("[comm {} {}]\n", comm.channel, set_text(&comm.set));
+    for (table, set) in document.tables() {
+        text += &format!("{}\n", table_text(table, set));
     }
     for claim in &document.claims {
         text += &format!("[claim {} {}]\n", claim.channel, claim.word.text());
@@ -44,10 +41,17 @@ fn form_text(form: &Form) -> String {
     format!("[{}{numbers}]", form.word())
 }
 
+/// The flow or comm line of a set, without its byte 10.
+pub fn table_text(table: Table, set: &Set) -> String {
+    let set = set_text(set);
+    match table {
+        Table::Values(name) => format!("[flow {name} {set}]"),
+        Table::Messages(channel) => format!("[comm {channel} {set}]"),
+    }
+}
+
 /// The text of a set.
 pub fn set_text(set: &Set) -> String {
-    let unit = set.unit.then(|| "u".to_string());
-    let rows = set.rows.iter().map(usize::to_string);
-    let parts: Vec<String> = unit.into_iter().chain(rows).collect();
-    format!("[{}]", parts.join(" "))
+    let members: Vec<String> = set.members().map(|member| member.to_string()).collect();
+    format!("[{}]", members.join(" "))
 }

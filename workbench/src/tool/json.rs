@@ -35,6 +35,9 @@ pub fn line(file: &str, outcome: &Outcome) -> String {
                     let walk = |walk: &Vec<usize>| array(walk.iter().map(usize::to_string));
                     fields.push(("walks", array(walks.iter().map(walk))));
                 }
+                if let Some(hint) = explanation.hint {
+                    fields.push(("hint", string(hint)));
+                }
             }
         }
         Outcome::Unreadable(message) => fields.push(("error", string(message))),

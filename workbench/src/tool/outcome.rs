@@ -31,26 +31,37 @@ pub enum Outcome {
         /// The line at fault, without its byte 10.
         line: Vec<u8>,
         /// None if the reference answers otherwise.
-        explanation: Option<Explanation>,
+        explanation: Option<Box<Explanation>>,
     },
     Unreadable(String),
 }
 
 /// Checks a file.
 pub fn check(path: &Path) -> Outcome {
-    match read_file(path) {
-        Ok(file) => check_bytes(&file),
-        Err(error) => Outcome::Unreadable(match error.kind() {
+    let file = match read_file(path) {
+        Ok(file) => file,
+        Err(outcome) => return outcome,
+    };
+    match judged(&file) {
+        Ok((claims, channels)) => Outcome::Accepted { claims, channels },
+        Err(refusal) => refused(&file, refusal),
+    }
+}
+
+/// The bytes of a file, or the outcome of one that cannot be read.
+pub fn read_file(path: &Path) -> Result<Vec<u8>, Outcome> {
+    try_read(path).map_err(|error| {
+        Outcome::Unreadable(match error.kind() {
             io::ErrorKind::NotFound => "there is no such file".to_string(),
             io::ErrorKind::IsADirectory => "this is a folder, not a file".to_string(),
             io::ErrorKind::PermissionDenied => "the file may not be read".to_string(),
             _ => format!("the file cannot be read: {error}"),
-        }),
-    }
+        })
+    })
 }
 
-/// The bytes of a file. Of one that is too long no more are read than show it.
-fn read_file(path: &Path) -> io::Result<Vec<u8>> {
+/// Of a file that is too long no more bytes are read than show it.
+fn try_read(path: &Path) -> io::Result<Vec<u8>> {
     let enough = MAX_FILE_BYTES as u64 + 1;
     let mut bytes = vec![];
     if path == Path::new("-") {
@@ -61,20 +72,16 @@ fn read_file(path: &Path) -> io::Result<Vec<u8>> {
     Ok(bytes)
 }
 
-fn check_bytes(file: &[u8]) -> Outcome {
-    match judged(file) {
-        Ok((claims, channels)) => Outcome::Accepted { claims, channels },
-        Err(refused) => {
-            let told = refusal::refusal(u16::from(refused.reason.number()), refused.line);
-            let line = refused.line.checked_sub(1);
-            let line = line.and_then(|line| lines(file).get(line).copied());
-            let line = line.unwrap_or_default();
-            Outcome::Refused {
-                refusal: refused,
-                line: line.strip_suffix(b"\n").unwrap_or(line).to_vec(),
-                explanation: explain(file, told),
-            }
-        }
+/// The outcome of a file that the library refuses.
+pub fn refused(file: &[u8], refusal: Refusal) -> Outcome {
+    let told = refusal::refusal(u16::from(refusal.reason.number()), refusal.line);
+    let line = refusal.line.checked_sub(1);
+    let line = line.and_then(|line| lines(file).get(line).copied());
+    let line = line.unwrap_or_default();
+    Outcome::Refused {
+        refusal,
+        line: line.strip_suffix(b"\n").unwrap_or(line).to_vec(),
+        explanation: explain(file, told).map(Box::new),
     }
 }
 

@@ -56,7 +56,7 @@ pub fn text(file: &str, outcome: &Outcome, colours: bool) -> String {
             };
             let refused = styled(&format!("refused {number}"), Style::Bad, colours);
             let head = format!("{file}: {refused}{place}: {reason}\n");
-            head + &why(*at, line, explanation.as_ref(), colours)
+            head + &why(*at, line, explanation.as_deref(), colours)
         }
         Outcome::Unreadable(message) => {
             let trouble = styled("not checked", Style::Bad, colours);
@@ -114,6 +114,9 @@ fn why(at: usize, line: &[u8], explanation: Option<&Explanation>, colours: bool)
         Some(explanation) => {
             for sentence in &explanation.why {
                 text += &format!("  {sentence}\n");
+            }
+            if let Some(hint) = explanation.hint {
+                text += &format!("  {hint}\n");
             }
         }
         None => text += "  The reference answers otherwise, so there is no explanation.\n",
