@@ -1,41 +1,20 @@
 -- What a form asks of each row in its set.
 use Prim.Native.Nat.{ℕ}
-use mathlib.Core.Bool.{Bool, true, false, _&&_}
+use mathlib.Core.Bool.{Bool, _&&_}
 use mathlib.Core.Path.{_≡_}
 use Rattle.program.specs.Maybe.{when}
-use Rattle.program.specs.Program.{Program, chanAt, sendAt, recvAt, pairAt, leftAt, rightAt, funAt, resultName}
-use Rattle.program.specs.Flow.{Set, Table, lies, forEachChan}
+use Rattle.program.specs.Program.{Program, recvAt, pairAt, leftAt, rightAt, funAt, resultName}
+use Rattle.program.specs.Flow.{Set, Table, lies}
 use Rattle.format.specs.Text.{Bytes, byteAt}
 use Rattle.store.specs.Rows.{storeProgram}
 use Rattle.tables.specs.Tables.{storeFlow, storeComm}
-use Rattle.asks.specs.declared.channels.Demand.{Demand}
 use Rattle.asks.specs.declared.rules.Ask.{Ask}
-use Rattle.sets.specs.Sets.{PassingSet}
 
 -- a byte for each row: the name of the result reached from it
 unfoldable pub Names : Program → Bytes → Type 0
 Names p names = (t : ℕ) → byteAt names t ≡ resultName p t
 
--- what a sync asks of a send's channels, by whether unit is in its own set
-unfoldable pub sendDemand : Bool → Demand
-sendDemand true = Demand.Holds
-sendDemand false = Demand.Never
-
-module _ (p : Program) (comm : Table) where
-  -- what is asked of channel row k beside the set t
-  unfoldable pub meets : Demand → Set → ℕ → Bool
-  meets Demand.Within t k = lies p (comm k) t
-  meets Demand.Holds t k = lies p t (comm k)
-  meets Demand.Never t k = false
-
-  unfoldable pub chanTest : Demand → Set → ℕ → Bool
-  chanTest w t k = when (chanAt p k) λ n. meets w t k
-
 module _ (p : Program) (flow comm : Table) where
-  -- what a sync asks of a send row, by whether unit is in its own set
-  unfoldable pub sendTest : Bool → ℕ → Bool
-  sendTest given s = when (sendAt p s) λ (c, m). forEachChan p (flow c) λ k. given && lies p (flow m) (comm k)
-
   -- what a form asks of row k in its set, where its own set is t; of a sync, that the channels of a recv row lie in t
   unfoldable pub asks : Ask → Set → ℕ → Bool
   asks Ask.Recv t k = when (recvAt p k) λ c. lies p (flow c) t
@@ -49,7 +28,3 @@ module _ (p : Program) (flow comm : Table) where
 -- the same over the sets of a store
 abbrev pub storeAsks : ℕ → Bytes → Ask → Set → ℕ → Bool
 storeAsks rows s = asks (storeProgram rows s) (storeFlow s) (storeComm s)
-
--- the send rows that pass a sync with or without unit in its set, and the rows that are none, as a set of bytes
-abbrev pub Sends : ℕ → Bytes → Bool → Bytes → Type 0
-Sends rows s given marks = PassingSet rows (sendTest (storeProgram rows s) (storeFlow s) (storeComm s) given) marks

@@ -1,6 +1,6 @@
 // The rule of a form: what it asks of each row in its set.
-use crate::members::has_row;
 use forms::form_at;
+use members::has_row;
 use program::Form;
 use sets::flow_lies;
 use sets::flow_set;

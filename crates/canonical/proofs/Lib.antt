@@ -1,4 +1,2 @@
--- Laws that the proofs of the functions share.
-pub mod Counting
-pub mod RowBytes
+-- Laws that the proof of `canonical` rests on.
 pub mod Parts

@@ -1,67 +1,23 @@
--- The parts of a store: its first rows in turn, what stands behind them, the sets and the claims.
+-- The parts of a store: what stands behind its rows, the sets and the claims, and the tests in turn.
 use Prim.Native.Nat.{ℕ, zero, suc, _+_, _*_, _-_, _≤_, _<_}
 use native.Mathlib.Omega.{arith}
 use mathlib.Core.Bool.{Bool, true, false, _&&_}
-use mathlib.Core.List.{List, [], _∷_}
+use mathlib.Core.List.{[], _∷_}
 use mathlib.Core.Path.{_≡_, refl, sym, ap, _∙_}
-use lib.ListN.{length, getD, take, drop, length-drop}
+use lib.ListN.{length, take, drop, length-drop}
 use lib.Seq.{take-all, take-nil}
-use lib.Dec.{ltb, eqb}
-use borrow.Author.Tests.{lt-ltb, le-ltb, eq-eqb, ne-eqb}
-use Rattle.program.specs.Test.{pick, all}
+use lib.Dec.{ltb}
+use borrow.Author.Tests.{lt-ltb, le-ltb}
 use Rattle.program.specs.Each.{every}
 use Rattle.format.specs.Text.{Bytes}
-use Rattle.format.specs.Limits.{rowLimit}
 use Rattle.calls.specs.Layout.{rowSize, rowsSize, setsSize, storeSize, claimsStart, codeLimit}
-use Rattle.calls.specs.Canonical.{rowSound, rowsSound, restZero, flagsSound, claimsSound}
+use Rattle.calls.specs.Canonical.{rowsSound, restZero, flagsSound, claimsSound}
+use Rattle.byte_tests.proofs.Below.{below-zero}
 
 abbrev Below : ℕ → Bytes → Bool
 Below limit bs = every (λ x. ltb x limit) bs
 
--- ---- the first rows, from the last down
-
--- the rows below one that is sound are what is left to test
-abbrev pub SoundTo : Bytes → ℕ → ℕ → Type 0
-SoundTo s n left = rowsSound n s ≡ rowsSound left s
-
-abbrev rowAt : Bytes → ℕ → Bytes
-rowAt s r = take rowSize (drop (r * rowSize) s)
-
-rows-step : (s : Bytes) (r : ℕ) → rowsSound (suc r) s ≡ (rowSound (rowAt s r) && rowsSound r s)
-unfolding rowsSound all
-rows-step s r = refl
-
--- row r as the code cuts it out
-abbrev pub rowPart : Bytes → ℕ → Bytes
-rowPart s r = take (r * rowSize + rowSize - r * rowSize) (drop (r * rowSize) s)
-
-part-is : (s : Bytes) (r : ℕ) → rowPart s r ≡ rowAt s r
-part-is s r = let q : r * rowSize + rowSize - r * rowSize ≡ rowSize = omega arith in rw q
-
-pub rows-go : (s : Bytes) (n left : ℕ) → 0 < left → SoundTo s n left → rowSound (rowPart s (left - 1)) ≡ true → SoundTo s n (left - 1)
-rows-go s n left l h e =
-    let q : left ≡ suc (left - 1) = omega arith in
-    h ∙ ap (λ (m : ℕ). rowsSound m s) q ∙ rows-step s (left - 1) ∙ rw (← part-is s (left - 1), e)
-
-pub rows-fail : (s : Bytes) (n left : ℕ) → 0 < left → SoundTo s n left → rowSound (rowPart s (left - 1)) ≡ false → false ≡ rowsSound n s
-rows-fail s n left l h e =
-    let q : left ≡ suc (left - 1) = omega arith in
-    sym (h ∙ ap (λ (m : ℕ). rowsSound m s) q ∙ rows-step s (left - 1) ∙ rw (← part-is s (left - 1), e))
-
-pub rows-end : (s : Bytes) (n left : ℕ) → left ≤ 0 → SoundTo s n left → true ≡ rowsSound n s
-unfolding rowsSound all
-rows-end s n left l h = let q : left ≡ 0 = omega arith in sym (h ∙ ap (λ (m : ℕ). rowsSound m s) q)
-
 -- ---- the rest
-
-pub below-zero : (bs : Bytes) → every (λ b. eqb b 0) bs ≡ Below 1 bs
-unfolding every
-below-zero [] = refl
-below-zero (b ∷ bs) = rw (below-zero bs, zero-test b)
-  where
-    zero-test : (n : ℕ) → eqb n 0 ≡ ltb n 1
-    zero-test zero = refl
-    zero-test (suc n) = ne-eqb (suc n) 0 (λ e. omega (arith, e)) ∙ sym (le-ltb (suc n) 1 (omega arith))
 
 drop-take : (m n : ℕ) (s : Bytes) → drop m (take n s) ≡ take (n - m) (drop m s)
 drop-take zero n s = let q : n - 0 ≡ n = omega arith in rw q

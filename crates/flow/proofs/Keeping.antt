@@ -19,10 +19,11 @@ use Rattle.tables.specs.Tables.{storeFlow, storeComm}
 use Rattle.forms.proofs.Forms.{every-form}
 use Rattle.sets.specs.Sets.{PassingSet, setOf}
 use Rattle.sets.proofs.Tests.{implies-and, all-and}
-use Rattle.asks.specs.declared.channels.Demand.{Demand}
+use Rattle.channel_asks.specs.declared.Demand.{Demand}
 use Rattle.asks.specs.declared.rules.Ask.{Ask}
-use Rattle.asks.specs.Asks.{chanTest, sendTest, asks, storeAsks}
-use Rattle.asks.proofs.Asked.{received}
+use Rattle.channel_asks.specs.Channels.{chanTest, sendTest}
+use Rattle.asks.specs.Asks.{asks, storeAsks}
+use Rattle.channel_asks.proofs.Channels.{received}
 use Rattle.flow.specs.Rules.{recvTest, syncTest}
 
 -- ---- a sync: its send rows and its recv rows apart

@@ -4,7 +4,7 @@ use mathlib.Core.Bool.{Bool, _&&_}
 use Rattle.program.specs.Maybe.{when}
 use Rattle.program.specs.Program.{Program, recvAt}
 use Rattle.program.specs.Flow.{u, Set, Table, lies, forEach, forEachChan}
-use Rattle.asks.specs.Asks.{sendTest}
+use Rattle.channel_asks.specs.Channels.{sendTest}
 
 module _ (p : Program) (flow comm : Table) where
   -- what a sync asks of a recv row, where its own set is t

@@ -1,13 +1,13 @@
 // The flow rules over the sets of a store: the smallest row whose rule fails.
 use asks::Ask;
-use asks::Demand;
 use asks::each_passes;
-use asks::has_row;
-use asks::has_unit;
-use asks::passing;
-use asks::passing_sends;
 use asks::result_names;
+use channel_asks::Demand;
+use channel_asks::passing;
+use channel_asks::passing_sends;
 use forms::row_in;
+use members::has_row;
+use members::has_unit;
 use program::Form;
 use program::Row;
 use sets::flow_lies;
@@ -24,7 +24,8 @@ ghost use Rattle.calls.specs.Layout.{storeSize};
 ghost use Rattle.store.specs.Rows.{storeProgram, rowOr};
 ghost use Rattle.tables.specs.Tables.{storeFlow, storeComm};
 ghost use Rattle.sets.specs.Sets.{Sized};
-ghost use Rattle.asks.specs.Asks.{Names, Sends, sendTest};
+ghost use Rattle.channel_asks.specs.Channels.{Sends, sendTest};
+ghost use Rattle.asks.specs.Asks.{Names};
 ghost use Rattle.flow.specs.Rules.{syncTest};
 
 // Whether row r is in the set of name n and in that of a function's own name.

@@ -21,7 +21,7 @@ use Rattle.calls.specs.Layout.{storeSize, rowSize, memberLimit, rowBytes, flags
 use Rattle.calls.proofs.Codec.Rows.{row-size}
 use Rattle.calls.proofs.Codec.Sets.{flags-length}
 use Rattle.calls.proofs.Codec.Adding.{patch}
-use Rattle.read_rows.specs.Reads.{rowAbove}
+use Rattle.raw_rows.specs.Raw.{rowAbove}
 use Rattle.read_sets.specs.declared.SetFault.{SetFault}
 use Rattle.read_sets.specs.declared.SetRead.{SetRead}
 use Rattle.read_sets.specs.Sets.{setFault, marks, SetIs}

@@ -79,12 +79,12 @@ fn keep_row(file: &[u8], at: usize, n: u16, store: &mut [u8], p: Progress) -> Li
     let Next::At(next) = read_text::expect(file, e, b"]\n") else {
         return LineRead::Refused(Reason::NotALine);
     };
-    let above = read_rows::row_above(raw);
+    let above = raw_rows::row_above(raw);
     let r = n as usize;
     if let LineFault::Refused(reason) = progress::row_fault(p, r, above) {
         return LineRead::Refused(reason);
     }
-    let row = read_rows::row_of(raw);
+    let row = raw_rows::row_of(raw);
     store::put_row(store, n as u8, row);
     LineRead::Kept(p.with_row(), next)
 }

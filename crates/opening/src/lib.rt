@@ -32,7 +32,7 @@ fn is_unsound(fixed: &[u8]) -> bool
     requires { ⌜ length (now fixed) ≡ storeSize ⌝ }
     ensures { λ b. ⌜ b ≡ unsound (now (fixed .entry)) ⌝ }
 {
-    let rows = canonical::count_rows(fixed);
+    let rows = row_bytes::count_rows(fixed);
     if canonical::canonical(fixed, rows) {
         let Structure::Sound = structure::structure_fault(fixed, rows) else {
             return true;
@@ -47,13 +47,13 @@ fn open_fixed(fixed: &[u8]) -> Opened
     requires { ⌜ length (now fixed) ≡ storeSize ⌝ }
     ensures { λ o. ⌜ OpenedIs (openedFixed (now (fixed .entry))) (now (fixed .entry)) o ⌝ }
 {
-    if canonical::all_zero(fixed) {
+    if byte_tests::all_zero(fixed) {
         return refuse_store(Reason::StoreEmpty);
     }
     if is_unsound(fixed) {
         return refuse_store(Reason::StoreUnsound);
     }
-    Opened::Rows(canonical::count_rows(fixed))
+    Opened::Rows(row_bytes::count_rows(fixed))
 }
 
 // 20, 21 and 22 of a store, at the head of a slice.

@@ -18,7 +18,7 @@ use Rattle.format.specs.declared.Reason.the-variants.{NotALine, AboveLimit, Out
 use Rattle.format.specs.Limits.{rowLimit}
 use Rattle.format.specs.Document.{Document, Line, row, claim}
 use Rattle.format.specs.Read.{present, rowNumbers, setRows, lineNumbers, outOfOrder, aboveLimit, outOfCount, rising, notRising, lineFault}
-use Rattle.read_rows.specs.Reads.{rowAbove}
+use Rattle.raw_rows.specs.Raw.{rowAbove}
 use Rattle.read_sets.specs.declared.SetFault.{SetFault}
 use Rattle.read_sets.specs.declared.SetFault.the-variants as set
 use Rattle.read_sets.specs.Sets.{isAboveLimit, isNotRising, setFault}

@@ -19,11 +19,13 @@ use Rattle.format.specs.Text.{Bytes}
 use Rattle.store.specs.Rows.{storeProgram}
 use Rattle.store.proofs.Laws.{program-length}
 use Rattle.tables.specs.Tables.{flowFlag, storeFlow}
-use Rattle.reach.specs.declared.edges.Kind.{Kind}
-use Rattle.reach.specs.declared.edges.Kind.the-variants.{Body, Branch, Call}
+use Rattle.row_kinds.specs.declared.Kind.{Kind}
+use Rattle.row_kinds.specs.declared.Kind.the-variants.{Body, Branch, Call}
 use Rattle.grids.specs.Grid.{AddsPairs}
 use Rattle.grids.proofs.Adding.{adds-as, adds-then}
-use Rattle.reach.specs.Edges.{kindAt, resultOf, bodyResult, callSteps, intoBoth, fromBoth, kindCalled, bodySteps, anyBody, entering, kindSteps, rowSteps}
+use Rattle.row_kinds.specs.Kinds.{kindAt, resultOf, bodyResult}
+use Rattle.step_marks.specs.Marks.{callSteps, intoBoth, fromBoth}
+use Rattle.reach.specs.Edges.{kindCalled, bodySteps, anyBody, entering, kindSteps, rowSteps}
 
 -- ---- a fun row that may be called
 

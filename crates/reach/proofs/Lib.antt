@@ -1,4 +1,3 @@
 -- Laws about the definitions of specs/, and what the proofs of several functions share.
-pub mod Rows
 pub mod Giving
 pub mod Steps

@@ -26,7 +26,9 @@ use Rattle.store.specs.Rows.{storeProgram}
 use Rattle.store.proofs.Laws.{program-length}
 use Rattle.grids.specs.Grid.{among, step, Fills, Closes}
 use Rattle.grids.proofs.Keeping.{kept-then}
-use Rattle.reach.specs.Edges.{kindOf, kindOfRow, kindAt, callSteps, fromBoth, kindCalled, bodySteps, anyBody, entering, kindSteps, rowSteps, anyRow}
+use Rattle.row_kinds.specs.Kinds.{kindOf, kindOfRow, kindAt}
+use Rattle.step_marks.specs.Marks.{callSteps, fromBoth}
+use Rattle.reach.specs.Edges.{kindCalled, bodySteps, anyBody, entering, kindSteps, rowSteps, anyRow}
 use Rattle.grids.proofs.Adding.{among-as, fills-as}
 
 same-test : (a b : Bool) → (So a → So b) → (So b → So a) → a ≡ b

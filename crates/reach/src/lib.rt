@@ -10,7 +10,6 @@ ghost use Rattle.grids.specs.Grid.{gridSize, Fills};
 pub mod edges; // edges.rt: the single row steps
 
 pub use edges::fill_edges;
-pub use edges::result_row;
 use grids::close;
 
 // Fills the grid, whatever stood in it: the byte of r and s is 1 if row s is reached from row r by one or more row steps,

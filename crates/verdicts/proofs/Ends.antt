@@ -24,7 +24,7 @@ use Rattle.grids.specs.Grid.{Shows}
 use Rattle.row_marks.specs.RowMarks.{on, marked, Marked, meets, threeMeet}
 use Rattle.row_marks.proofs.Marking.{marked-in, marked-past}
 use Rattle.place_marks.proofs.Placing.{any-none}
-use Rattle.verdicts.specs.Walks.{aheadOf, leadsOn, forksOn, rivalsOn}
+use Rattle.walks.specs.Walks.{aheadOf, leadsOn, forksOn, rivalsOn}
 
 pub on-pick : (b : Bool) → ltb 0 (pick b 1 0) ≡ b
 on-pick true = refl

@@ -31,7 +31,7 @@ use Rattle.row_marks.proofs.Marking.{marked-in, marked-is}
 use Rattle.place_marks.specs.declared.Side.{Side}
 use Rattle.place_marks.specs.declared.Side.the-variants.{Sends, Receives}
 use Rattle.place_marks.specs.Places.{place}
-use Rattle.verdicts.specs.Walks.{comesTo}
+use Rattle.walks.specs.Walks.{comesTo}
 use Rattle.verdicts.specs.Words.{wordIn, factsIn}
 use Rattle.verdicts.proofs.Ends.{on-pick}
 

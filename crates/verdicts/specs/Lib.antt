@@ -1,3 +1,2 @@
--- What walks come to, and what the words say of a channel.
-pub mod Walks
+-- What the words say of a channel.
 pub mod Words

@@ -1,19 +1,19 @@
 // The words of a channel: which of the topologies hold of it, told by a grid of which rows reach which.
-use crate::walks::reached_rows;
-use crate::walks::rivals;
-use crate::walks::rows_ahead;
+use claim_words::says;
 use place_marks::Side;
 use place_marks::places;
 use program::Ends;
 use program::Facts;
 use program::Word;
 use row_marks::three_meet;
-ghost use mathlib.Core.Bool.{not, _&&_};
+use walks::reached_rows;
+use walks::rivals;
+use walks::rows_ahead;
 ghost use mathlib.Core.List.{map};
 ghost use mathlib.Core.Path.{_≡_};
 ghost use Prim.Native.Nat.{_≤_};
 ghost use lib.ListN.{length};
-ghost use Rattle.program.specs.Verdict.{reach, says};
+ghost use Rattle.program.specs.Verdict.{reach};
 ghost use Rattle.format.specs.Limits.{rowLimit};
 ghost use Rattle.calls.specs.Layout.{storeSize};
 ghost use Rattle.calls.specs.Judging.{verdictWords};
@@ -21,33 +21,6 @@ ghost use Rattle.store.specs.Rows.{storeProgram};
 ghost use Rattle.tables.specs.Tables.{storeFlow};
 ghost use Rattle.grids.specs.Grid.{gridSize, Shows};
 ghost use Rattle.verdicts.specs.Words.{endsAt, factsAt, wordIn, factsIn};
-
-mod walks; // walks.rt: what walks come to
-
-// Neither holds.
-fn neither(a: bool, b: bool) -> bool
-    ensures { λ r. ⌜ r ≡ not a && not b ⌝ }
-{
-    if a {
-        return false;
-    }
-    !b
-}
-
-// What a word says, by what is found at the two ends of a channel.
-pub fn says(word: Word, found: Facts) -> bool
-    ensures { λ b. ⌜ b ≡ says word found ⌝ }
-{
-    let sends = found.sends;
-    let receives = found.receives;
-    match word {
-        Word::OneShot => neither(sends.twice, sends.rivals),
-        Word::OneToOne => neither(sends.rivals, receives.rivals),
-        Word::FanOut => !sends.rivals,
-        Word::FanIn => !receives.rivals,
-        Word::Many => true,
-    }
-}
 
 // What is found of the walks that come to the marked places, where `comes` marks the rows that their shared beginnings come to.
 fn ends_of(store: &[u8], rows: u8, grid: &[u8], comes: &[u8], places: &[u8]) -> Ends

@@ -16,16 +16,6 @@ use Rattle.calls.specs.Layout.{rowSize, storeSize, counting, rowOf}
 use Rattle.store.specs.Rows.{storeRow, storeProgram}
 use Rattle.write_rows.specs.Texts.{resultText}
 
--- ---- numbers
-
-pub arguments-next : (ns : List ℕ) (i : ℕ) → i < length ns → arguments (drop i ns) ≡ argument (getD ns i 0) ++ arguments (drop (i + 1) ns)
-unfolding arguments
-arguments-next ns i h = rw (add-one, drop-cons ns i 0 h)
-
-pub arguments-end : (ns : List ℕ) (i : ℕ) → length ns ≤ i → arguments (drop i ns) ≡ []
-unfolding arguments
-arguments-end ns i h = rw (drop-of-length-le ns h)
-
 -- ---- a row by its bytes
 
 -- the bytes of row r as the code cuts them out

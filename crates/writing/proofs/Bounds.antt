@@ -26,7 +26,8 @@ use Rattle.write_text.specs.Write.{Room}
 use Rattle.store.specs.Document.{storeDocument}
 use Rattle.write_sets.specs.Texts.{entryText}
 use Rattle.write_sets.proofs.Parts.{with-entry}
-use Rattle.writing.proofs.Parts.{claimsText, document-parts, partsText, stored-parts}
+use Rattle.write_claims.proofs.Claims.{claimsText}
+use Rattle.writing.proofs.Parts.{document-parts, partsText, stored-parts}
 
 -- ---- numbers
 

@@ -1,6 +1,6 @@
 // The text of the document in a store, written into a slice at a position. What does not fit the slice is not written, and counts all the same.
-use claims::put_claims;
 use store::Store;
+use write_claims::put_claims;
 use write_rows::put_rows;
 use write_sets::put_sets;
 ghost use mathlib.Core.Path.{_≡_};
@@ -10,8 +10,6 @@ ghost use Rattle.format.specs.Print.{documentText};
 ghost use Rattle.calls.specs.Layout.{storeSize};
 ghost use Rattle.write_text.specs.Write.{Room, Wrote};
 ghost use Rattle.store.specs.Document.{storeDocument};
-
-mod claims; // claims.rt: claim lines
 
 // Writes the document of the bytes of a store with so many rows.
 fn put_store(out: &mut [u8], store: &[u8], rows: u8) -> usize

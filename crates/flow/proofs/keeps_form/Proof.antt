@@ -2,7 +2,8 @@
 use mathlib.Core.Path.{_∙_}
 use borrow.Author.Needs.{needs}
 use Rattle.program.specs.Flow.{sendRule, recvRule, keepsForm}
-use Rattle.asks.specs.Asks.{Names, sendTest, asks}
+use Rattle.channel_asks.specs.Channels.{sendTest}
+use Rattle.asks.specs.Asks.{Names, asks}
 use Rattle.flow.specs.Rules.{recvTest, syncTest}
 use Rattle.flow.proofs.Keeping.{value-keeps}
 use Rattle.flow.proofs.keeps_form.Statement.{statement}

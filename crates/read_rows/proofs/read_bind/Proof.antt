@@ -3,7 +3,7 @@ use borrow.Author.Needs.{needs}
 use Rattle.program.specs.Maybe.{_>>=_}
 use Rattle.format.specs.Read.{readBind}
 use Rattle.format.specs.Text.{ascii}
-use Rattle.read_rows.specs.Reads.{rawRow}
+use Rattle.raw_rows.specs.Raw.{rawRow}
 use Rattle.read_rows.proofs.read_bind.Statement.{statement}
 use Rattle.read_rows.proofs.read_bind.Tie as tie
 

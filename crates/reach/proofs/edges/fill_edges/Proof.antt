@@ -7,7 +7,8 @@ use borrow.Author.Needs.{needs}
 use Rattle.program.specs.Test.{any}
 use Rattle.store.specs.Rows.{storeProgram}
 use Rattle.tables.specs.Tables.{storeFlow}
-use Rattle.reach.specs.Edges.{BodyResults, rowSteps, anyRow}
+use Rattle.row_kinds.specs.Kinds.{BodyResults}
+use Rattle.reach.specs.Edges.{rowSteps, anyRow}
 use Rattle.grids.specs.Grid.{AddsPairs}
 use Rattle.reach.proofs.Steps.{fills-edges}
 use Rattle.grids.proofs.Adding.{adds-none, adds-next, fills-adds}

@@ -10,9 +10,9 @@ use types.Run.{OneOf}
 use borrow.Author.Needs.{needs}
 use Rattle.program.specs.Program.{Program}
 use Rattle.reach.specs.Edges.{kindCalled}
-use Rattle.reach.specs.declared.edges.Kind.the-variants.{End, Next, Body, Fork, Branch, Call}
-use Rattle.reach.specs.declared.edges.Kind.{Kind}
-use Rattle.reach.proofs.edges.Kind.{the-type}
+use Rattle.row_kinds.specs.declared.Kind.the-variants.{End, Next, Body, Fork, Branch, Call}
+use Rattle.row_kinds.specs.declared.Kind.{Kind}
+use Rattle.row_kinds.proofs.Kind.{the-type}
 use Rattle.grids.proofs.Adding.{adds-none, adds-as}
 use Rattle.reach.proofs.Giving.{body-out, body-none, body-in}
 use Rattle.reach.proofs.edges.mark_body.Statement.{statement}

@@ -1,2 +1,0 @@
--- What the tests of a store's bytes answer.
-pub mod Rows

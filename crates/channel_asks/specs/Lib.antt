@@ -1,0 +1,2 @@
+-- What is asked of the channels of a send or recv row.
+pub mod Channels

@@ -1,0 +1,63 @@
+-- `says` meets its contract: in each arm what the word says.
+use Rattle.program.specs.Verdict.{says}
+use borrow.Author.Needs.{needs}
+use Rattle.claim_words.proofs.says.Statement.{statement}
+use Rattle.claim_words.proofs.says.Tie as tie
+
+enum-told : tie.Need-enum-told
+enum-told c = search needs
+
+neither-requires : tie.Need-neither-requires
+neither-requires c κs = search needs
+
+enum-told-2 : tie.Need-enum-told-2
+enum-told-2 c = search needs
+
+neither-requires-2 : tie.Need-neither-requires-2
+neither-requires-2 c κs = search needs
+
+enum-told-3 : tie.Need-enum-told-3
+enum-told-3 c = search needs
+
+enum-told-4 : tie.Need-enum-told-4
+enum-told-4 c = search needs
+
+enum-told-5 : tie.Need-enum-told-5
+enum-told-5 c = search needs
+
+returns : tie.Need-returns
+unfolding says
+returns c = rw (c .before .enum-told .given .1) (c .neither .ensures)
+
+returns-2 : tie.Need-returns-2
+unfolding says
+returns-2 c = rw (c .before .enum-told2 .given .1) (c .neither2 .ensures)
+
+returns-3 : tie.Need-returns-3
+unfolding says
+returns-3 c = rw (c .before .enum-told3 .given .1)
+
+returns-4 : tie.Need-returns-4
+unfolding says
+returns-4 c = rw (c .before .enum-told4 .given .1)
+
+returns-5 : tie.Need-returns-5
+unfolding says
+returns-5 c = rw (c .enum-told5 .given .1)
+
+pub says-spec : {M : Type 1} → statement M
+says-spec =
+    tie.close
+    (tie.spec
+    enum-told
+    neither-requires
+    enum-told-2
+    neither-requires-2
+    enum-told-3
+    enum-told-4
+    enum-told-5
+    returns
+    returns-2
+    returns-3
+    returns-4
+    returns-5)

@@ -1,0 +1,31 @@
+// What the words of a claim say, by what is found at the two ends of a channel.
+use program::Facts;
+use program::Word;
+ghost use mathlib.Core.Bool.{not, _&&_};
+ghost use mathlib.Core.Path.{_≡_};
+ghost use Rattle.program.specs.Verdict.{says};
+
+// Neither holds.
+fn neither(a: bool, b: bool) -> bool
+    ensures { λ r. ⌜ r ≡ not a && not b ⌝ }
+{
+    if a {
+        return false;
+    }
+    !b
+}
+
+// What a word says, by what is found at the two ends of a channel.
+pub fn says(word: Word, found: Facts) -> bool
+    ensures { λ b. ⌜ b ≡ says word found ⌝ }
+{
+    let sends = found.sends;
+    let receives = found.receives;
+    match word {
+        Word::OneShot => neither(sends.twice, sends.rivals),
+        Word::OneToOne => neither(sends.rivals, receives.rivals),
+        Word::FanOut => !sends.rivals,
+        Word::FanIn => !receives.rivals,
+        Word::Many => true,
+    }
+}

@@ -1,0 +1,2 @@
+-- Rows as read, in the terms of the format's definitions.
+pub mod Raw

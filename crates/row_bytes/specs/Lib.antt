@@ -1,0 +1,2 @@
+-- What the tests of a row's bytes answer.
+pub mod Rows

@@ -1,0 +1,2 @@
+-- The rows of a program as far as row steps ask.
+pub mod Kinds

@@ -1,0 +1,2 @@
+-- The row steps that belong together.
+pub mod Marks

@@ -1,0 +1,2 @@
+-- What walks come to.
+pub mod Walks

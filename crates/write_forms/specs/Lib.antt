@@ -1,0 +1,2 @@
+-- The texts that the functions of this crate write, beside those of the format.
+pub mod Texts
