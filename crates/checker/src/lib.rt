@@ -1,10 +1,11 @@
-// The checker's calls.
+// The checker's calls. `infer`, which puts the smallest tables in the place of a store's own, stands in crate inferring.
 use calls::JudgeAnswer;
 use calls::LoadAnswer;
 use calls::VerdictAnswer;
 use calls::WriteAnswer;
 use format::Reason;
 use format::Refusal;
+pub use inferring::infer;
 use opening::Opened;
 use store::Store;
 ghost use Rattle.calls.specs.Calls.{Leaves, load, judge, verdict, write, unaltered};

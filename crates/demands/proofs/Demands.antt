@@ -1,15 +1,17 @@
--- The demands, as theorems about the definitions of the calls, in document 01's numbers and values (`Answers` of crate calls). Their proofs stand in `Calls`, `Exact` and
--- `Numbers` of crate calls; here is what they say.
+-- The demands, and what the requests of document 02 promise, as theorems about the definitions of the calls, in document 01's numbers and values (`Answers` of crate calls).
+-- Their proofs stand in `Calls`, `Exact` and `Numbers` of crate calls and in crates least and inference; here is what they say.
 use Prim.Native.Nat.{ℕ, _≤_, _<_}
 use mathlib.Core.Bool.{false, So}
 use mathlib.Core.List.{List, [], _∷_, _++_}
 use mathlib.Core.Option.{some}
 use mathlib.Core.Path.{_≡_}
-use mathlib.Core.Logic.{_↔_}
+use mathlib.Core.Logic.{_↔_, _≢_}
 use lib.ListN.{length, take, drop, replicate}
 use Rattle.program.specs.Each.{Member}
 use Rattle.program.specs.declared.Word.{Word}
-use Rattle.program.specs.Program.{chanAt}
+use Rattle.program.specs.Program.{Program, chanAt}
+use Rattle.program.specs.Flow.{Table}
+use Rattle.program.specs.FlowRule.{KeepsAll}
 use Rattle.program.specs.Run.{Path, made, Step, run}
 use Rattle.program.specs.History.{HistoryFits}
 use Rattle.format.specs.Limits.{byteLimit}
@@ -24,6 +26,11 @@ use Rattle.calls.specs.Layout.{storeSize, encode}
 use Rattle.calls.specs.Judging.{wordHolds, WordHolds, reaches}
 use Rattle.calls.specs.Calls.{load, judge, verdict, write, unsound}
 use Rattle.calls.specs.Exact.{StoreHolds, RulesHold, ClaimsHold, JudgeIs, VerdictIs}
+use Rattle.least.specs.Least.{Within, smallestFlow, smallestComm}
+use Rattle.least.proofs.Least as least
+use Rattle.inference.specs.Inference.{infer}
+use Rattle.inference.specs.Inferred.{InferIs}
+use Rattle.inference.proofs.Inference as inference
 use Rattle.calls.proofs.Judging as judging
 use Rattle.calls.proofs.Calls as the
 use Rattle.calls.proofs.Exact as exact
@@ -93,3 +100,23 @@ pub sound : (file store : Bytes) (ns : List ℕ) (n : ℕ) → loadAnswer (load 
     × ((k : Claim) → Member k (d .claims) → (name : ℕ) → chanAt (d .rows) (k .channel) ≡ some name
     → (steps : List Step) (maker : Path) → HistoryFits (d .rows) (run (d .rows) steps) (made maker name) (k .word))
 sound = numbers.sound
+
+-- ---- request No. 1, "The smallest tables from the program alone"
+
+-- infer of any store: 20, 21 and 22 alter nothing; else the rows and claims keep their bytes, the sets "keep every flow rule, and each set lies inside the same set of any other
+-- tables that do", the outcome is a store that a file would leave, and the answer is the counts of its lines (`Inferred`)
+pub infer-exact : (store : Bytes) → InferIs store (loadAnswer (infer store .answer))
+infer-exact = inference.infer-exact
+
+-- "Judge never answers 10 on the outcome"
+pub infer-judged : (store : Bytes) (line : ℕ) → judgeAnswer (judge (infer store .bytes)) ≢ turnedBack 10 line
+infer-judged = inference.never-10
+
+-- the outcome's own outcome is itself
+pub infer-twice : (store : Bytes) → infer (infer store .bytes) ≡ infer store
+infer-twice = inference.infer-twice
+
+-- no other tables keep every rule and lie in all tables that do, whatever membership functions they are
+pub smallest-unique : (p : Program) (flow comm : Table) → KeepsAll p flow comm
+    → ((flow′ comm′ : Table) → KeepsAll p flow′ comm′ → Within flow flow′ × Within comm comm′) → (flow ≡ smallestFlow p) × (comm ≡ smallestComm p)
+smallest-unique = least.smallest-unique

@@ -5,7 +5,7 @@ use mathlib.Core.Bool.{So}
 use mathlib.Core.List.{List, [], _∷_, _++_}
 use mathlib.Core.Option.{some}
 use mathlib.Core.Path.{_≡_, sym, ap, _∙_}
-use mathlib.Core.Logic.{_↔_}
+use mathlib.Core.Logic.{_↔_, _≢_}
 use lib.ListN.{length, take, drop, replicate}
 use Rattle.program.specs.Each.{Member}
 use Rattle.program.specs.Program.{chanAt}
@@ -22,8 +22,10 @@ use Rattle.calls.specs.declared.VerdictAnswer.{VerdictAnswer}
 use Rattle.calls.specs.declared.WriteAnswer.{WriteAnswer}
 use Rattle.calls.specs.Answers.{turnedBack, answered, loadAnswer, judgeAnswer, verdictAnswer, writeAnswer}
 use Rattle.calls.specs.Layout.{storeSize}
-use Rattle.calls.specs.Calls.{Leaves, unaltered, load, judge, verdict, write}
+use Rattle.calls.specs.Calls.{Outcome, Leaves, unaltered, load, judge, verdict, write}
 use Rattle.calls.specs.Exact.{StoreHolds, RulesHold, ClaimsHold, JudgeIs, VerdictIs}
+use Rattle.inference.specs.Inference.{infer}
+use Rattle.inference.specs.Inferred.{InferIs}
 use Rattle.demands.proofs.Demands as definitions
 
 -- a load
@@ -102,3 +104,22 @@ module _ (store : Bytes) where
 
     pub verdict-exact : VerdictIs store c (verdictAnswer answer)
     verdict-exact = rw (gives .answer-is) (definitions.verdict-exact store c)
+
+-- infer
+module _ (store : Bytes) {answer : LoadAnswer} {left : Bytes} (infers : Leaves (infer store) answer left) where
+  -- Request No. 1: all answers of infer, with what the store then holds
+  pub infer-exact : InferIs store (loadAnswer answer)
+  infer-exact = rw (infers .answer-is) (definitions.infer-exact store)
+
+  -- "Judge never answers 10 on the outcome"
+  pub infer-judged : {judged : JudgeAnswer} {after : Bytes} → Leaves (unaltered (judge left) left) judged after → (line : ℕ) → judgeAnswer judged ≢ turnedBack 10 line
+  infer-judged judges line e =
+      definitions.infer-judged store line (ap (λ (s : Bytes). judgeAnswer (judge s)) (sym (infers .bytes-are)) ∙ ap judgeAnswer (sym (judges .answer-is)) ∙ e)
+
+  -- inferring once more changes nothing and answers the same
+  pub infer-twice : {other : LoadAnswer} {after : Bytes} → Leaves (infer left) other after → (other ≡ answer) × (after ≡ left)
+  infer-twice again =
+      let twice : infer left ≡ infer store = ap infer (infers .bytes-are) ∙ definitions.infer-twice store in (
+        again .answer-is ∙ ap (λ (o : Outcome LoadAnswer). o .answer) twice ∙ sym (infers .answer-is),
+        again .bytes-are ∙ ap (λ (o : Outcome LoadAnswer). o .bytes) twice ∙ sym (infers .bytes-are),
+      )

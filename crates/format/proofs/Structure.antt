@@ -20,7 +20,8 @@ use Rattle.program.proofs.WellFormed.{distinct, pointersRise, WellFormed}
 use Rattle.format.specs.declared.Reason.the-variants.{WrongPointer, BoundTwice, OutOfScope, NotAllowed}
 use Rattle.format.specs.declared.Refusal.{Refusal}
 use Rattle.format.specs.Document.{Entry, Document, withTables}
-use Rattle.format.specs.Structure.{wrongPointers, pointerFault, boundEarlier, binderFault, scopeLine, flowAllowed, commAllowed, claimAllowed, firstFailing, flowLine, commLine, claimLine, notAllowed, structureFault}
+use Rattle.format.specs.Structure.{wrongPointers, pointerFault, boundEarlier, binderFault, scopeLine, flowAllowed, commAllowed, claimAllowed, firstFailing, flowLine, commLine, claimLine}
+use Rattle.format.specs.Structure.{notAllowed, structureFault}
 use Rattle.format.proofs.First.{none-first, first-none}
 
 or-false : (a b : Bool) → (a || b) ≡ false → (a ≡ false) × (b ≡ false)
@@ -168,5 +169,6 @@ other-tables d flows comms e f c = last-other _ _ _ _ _ e (rw allowed-here)
     allowed-here = unfold notAllowed _<|>_ in rw (
       none-first (flowAllowed (d .rows)) (flowLine (withTables d flows comms)) flows f,
       none-first (commAllowed (d .rows)) (commLine (withTables d flows comms)) comms c,
-      none-first (claimAllowed (d .rows)) (claimLine (withTables d flows comms)) (d .claims) (first-none (claimAllowed (d .rows)) (claimLine d) (d .claims) (claims-fine d (structured d e .allowed))),
+      none-first (claimAllowed (d .rows)) (claimLine (withTables d flows comms)) (d .claims) (first-none (claimAllowed (d .rows)) (claimLine d) (d .claims) (claims-fine d
+          (structured d e .allowed))),
     )

@@ -37,7 +37,7 @@ use Rattle.format.proofs.Structure.{other-tables}
 use Rattle.calls.specs.declared.LoadAnswer.{LoadAnswer}
 use Rattle.calls.specs.Layout.{memberLimit, rowsSize, setsSize, claimsStart, storeSize, counting, padded, rowBytes, setsBytes, claimCode, encode}
 use Rattle.calls.specs.Judging.{flowTable, commTable}
-use Rattle.calls.specs.Calls.{Outcome, opened, counts, refilled, andThen, judge}
+use Rattle.calls.specs.Calls.{Outcome, opened, counts, refilled, judge}
 use Rattle.inference.specs.Inference.{abstractOf, tableFlags, entriesOf, smallestDocument, inferred, infer}
 use Rattle.inference.specs.Inferred.{Inferred, InferIs}
 use Rattle.calls.proofs.Codec.{low, all-fit, rows-bytes-length, encode-length}
@@ -79,7 +79,9 @@ binders-low (Row.Bind b) (i & h) = i & form-low rowLimit (b .form) (each-left (f
 names-low : (r : ℕ) (p : Program) → So (every (λ l. not (aboveLimit l)) (rowLines r p)) → Each (λ n. n < rowLimit) (collect binders p)
 unfolding rowLines collect
 names-low r [] t = nil
-names-low r (x ∷ p) t = each-append (binders-low x (row-low (low (document.row r x) (every-head _ (document.row r x) (rowLines (suc r) p) t)))) (names-low (suc r) p (every-tail _ (document.row r x) (rowLines (suc r) p) t))
+names-low r (x ∷ p) t =
+    each-append (binders-low x (row-low (low (document.row r x) (every-head _ (document.row r x) (rowLines (suc r) p) t))))
+    (names-low (suc r) p (every-tail _ (document.row r x) (rowLines (suc r) p) t))
   where
     row-low : Each (λ n. n < rowLimit) (lineNumbers (document.row r x)) → Each (λ n. n < rowLimit) (rowNumbers x)
     row-low h = unfold lineNumbers in tail h
@@ -162,7 +164,8 @@ smallest-orderly d o =
     orderly-iff (smallestDocument d) .1 (
       some-row,
       record {
-        numbers = every-append test rows (flows ++ (comms ++ claims)) (every-left test rows _ (partly .numbers)) (every-append test flows (comms ++ claims) (flow-lines _) (every-append test comms claims (comm-lines _) claims-low));
+        numbers = every-append test rows (flows ++ (comms ++ claims)) (every-left test rows _ (partly .numbers)) (every-append test flows (comms ++ claims) (flow-lines _)
+            (every-append test comms claims (comm-lines _) claims-low));
         flows = sets-rise _;
         comms = sets-rise _;
         claims = partly .claims;
@@ -173,7 +176,8 @@ pub smallest-well : (d : Document) → So (wellFormed d) → So (wellFormed (sma
 unfolding wellFormed smallestDocument
 smallest-well d w =
     and-intro (smallest-orderly d (and-left (orderly d) _ w))
-    (rw (other-tables d (entriesOf (smallestFlow (d .rows))) (entriesOf (smallestComm (d .rows))) (none-found (structureFault d) (and-right (orderly d) _ w)) (flows-allowed (d .rows)) (comms-allowed (d .rows))))
+    (rw (other-tables d (entriesOf (smallestFlow (d .rows))) (entriesOf (smallestComm (d .rows))) (none-found (structureFault d) (and-right (orderly d) _ w)) (flows-allowed (d .rows))
+    (comms-allowed (d .rows))))
   where
     none-found : (o : Option Refusal) → So (elim o [ none ↦ true | some r ↦ false ]) → o ≡ none
     none-found none t = refl
@@ -183,14 +187,15 @@ smallest-well d w =
 
 -- its bytes: the rows and claims of the document, and the flags of the smallest tables
 pub encode-smallest : (d : Document)
-    → encode (smallestDocument d) ≡ padded rowsSize (collect rowBytes (d .rows)) ++ (tableFlags rowLimit 0 (smallestFlow (d .rows)) ++ (tableFlags rowLimit 0 (smallestComm (d .rows)) ++ counting rowLimit 0 (claimCode (d .claims))))
+    → encode (smallestDocument d) ≡ padded rowsSize (collect rowBytes (d .rows)) ++ (tableFlags rowLimit 0 (smallestFlow (d .rows))
+    ++ (tableFlags rowLimit 0 (smallestComm (d .rows)) ++ counting rowLimit 0 (claimCode (d .claims))))
 unfolding encode smallestDocument
 encode-smallest d = rw (entries-flags (smallestFlow (d .rows)), entries-flags (smallestComm (d .rows)))
 
 -- what comes of a store that opens
 module _ (store : Bytes) (d : Document) (e : opened store ≡ accepted d) where
   infer-opened : infer store ≡ record { answer = LoadAnswer.Loaded (counts (smallestDocument d)); bytes = encode (smallestDocument d) ++ drop storeSize store }
-  unfolding infer andThen inferred refilled
+  unfolding infer inferred refilled
   infer-opened = rw e
 
   well-opened : So (wellFormed (smallestDocument d))
@@ -207,12 +212,12 @@ module _ (rows flows comms claims rest : Bytes) where
   first-part l = rw append-assoc (take-at rows _ rowsSize l)
 
   pub last-part : length rows ≡ rowsSize → length flows ≡ setsSize → length comms ≡ setsSize
-      → drop (claimsStart) ((rows ++ (flows ++ (comms ++ claims))) ++ rest) ≡ claims ++ rest
+      → drop claimsStart ((rows ++ (flows ++ (comms ++ claims))) ++ rest) ≡ claims ++ rest
   last-part l m n =
       let behind₂ = comms ++ (claims ++ rest) in
       let behind₁ = flows ++ behind₂ in
       let joined : (rows ++ (flows ++ (comms ++ claims))) ++ rest ≡ rows ++ behind₁ = simp append-assoc in
-      ap (drop (claimsStart)) joined ∙ sym (drop-thrice rowsSize setsSize setsSize (rows ++ behind₁))
+      ap (drop claimsStart) joined ∙ sym (drop-thrice rowsSize setsSize setsSize (rows ++ behind₁))
       ∙ rw (drop-at rows behind₁ rowsSize l, drop-at flows behind₂ setsSize m, drop-at comms (claims ++ rest) setsSize n)
 
 module _ (store : Bytes) (d : Document) (e : opened store ≡ accepted d) where
@@ -238,17 +243,19 @@ module _ (store : Bytes) (d : Document) (e : opened store ≡ accepted d) where
       ap (take rowsSize) infer-parts ∙ first-part rowsPart (setsBytes (smallestDocument d .flows)) (setsBytes (smallestDocument d .comms)) claimsPart (drop storeSize store) rows-size
       ∙ sym (ap (take rowsSize) store-parts ∙ first-part rowsPart (setsBytes (d .flows)) (setsBytes (d .comms)) claimsPart (drop storeSize store) rows-size)
 
-  opened-rest : drop (claimsStart) (infer store .bytes) ≡ drop (claimsStart) store
+  opened-rest : drop claimsStart (infer store .bytes) ≡ drop claimsStart store
   opened-rest =
-      ap (drop (claimsStart)) infer-parts
-      ∙ last-part rowsPart (setsBytes (smallestDocument d .flows)) (setsBytes (smallestDocument d .comms)) claimsPart (drop storeSize store) rows-size (sets-bytes-length (smallestDocument d .flows)) (sets-bytes-length (smallestDocument d .comms))
-      ∙ sym (ap (drop (claimsStart)) store-parts ∙ last-part rowsPart (setsBytes (d .flows)) (setsBytes (d .comms)) claimsPart (drop storeSize store) rows-size (sets-bytes-length (d .flows)) (sets-bytes-length (d .comms)))
+      ap (drop claimsStart) infer-parts
+      ∙ last-part rowsPart (setsBytes (smallestDocument d .flows)) (setsBytes (smallestDocument d .comms)) claimsPart (drop storeSize store) rows-size
+      (sets-bytes-length (smallestDocument d .flows)) (sets-bytes-length (smallestDocument d .comms))
+      ∙ sym (ap (drop claimsStart) store-parts ∙ last-part rowsPart (setsBytes (d .flows)) (setsBytes (d .comms)) claimsPart (drop storeSize store) rows-size (sets-bytes-length (d .flows))
+      (sets-bytes-length (d .comms)))
 
 -- ---- a store of any bytes
 
 -- a store that does not open stays as it was
 infer-refused : (store : Bytes) (r : Refusal) → opened store ≡ refused r → infer store ≡ record { answer = LoadAnswer.Refused r; bytes = store }
-unfolding infer andThen inferred
+unfolding infer inferred
 infer-refused store r e = rw e
 
 -- the lines of the smallest tables are not empty
@@ -293,7 +300,8 @@ module _ (store : Bytes) where
           let d′ = smallestDocument d in
           let o : infer store ≡ record { answer = LoadAnswer.Loaded (counts d′); bytes = encode d′ ++ drop storeSize store } = infer-opened store d e in
           let size : length (encode d′) ≡ storeSize = encode-length d′ (orderly-of d′ (well-opened store d e)) in
-          let rest : drop storeSize (infer store .bytes) ≡ drop storeSize store = ap (λ (o : Outcome LoadAnswer). drop storeSize (o .bytes)) o ∙ drop-at (encode d′) (drop storeSize store) storeSize size in
+          let rest : drop storeSize (infer store .bytes) ≡ drop storeSize store = ap (λ (o : Outcome LoadAnswer). drop storeSize (o .bytes)) o
+          ∙ drop-at (encode d′) (drop storeSize store) storeSize size in
           infer-opened (infer store .bytes) d′ (opened-again store d e) ∙ rw (again d, rest) (sym o)
 
   -- "Judge never answers 10 on the outcome"

@@ -13,7 +13,7 @@ use Rattle.format.specs.Refusals.{Result, refused, accepted}
 use Rattle.format.specs.Document.{Entry, Document, withTables}
 use Rattle.calls.specs.declared.LoadAnswer.{LoadAnswer}
 use Rattle.calls.specs.Layout.{memberLimit, counting, encode, decodeSets}
-use Rattle.calls.specs.Calls.{Outcome, opened, counts, refilled, andThen}
+use Rattle.calls.specs.Calls.{Outcome, opened, counts, refilled}
 
 -- unit is member 0, row r is member r + 1
 unfoldable pub abstractOf : ℕ → Abstract
@@ -36,11 +36,11 @@ entriesOf t = decodeSets rowLimit 0 (tableFlags rowLimit 0 t)
 unfoldable pub smallestDocument : Document → Document
 smallestDocument d = withTables d (entriesOf (smallestFlow (d .rows))) (entriesOf (smallestComm (d .rows)))
 
--- "Rows and claims keep their bytes"; a refused call alters nothing
+-- "Rows and claims keep their bytes"; "The call answers the counts that load would on the outcome's text, were there no length limit"; a refused call alters nothing
 unfoldable pub inferred : Bytes → Result Document → Outcome LoadAnswer
 inferred store (refused r) = record { answer = LoadAnswer.Refused r; bytes = store }
-inferred store (accepted d) = record { answer = LoadAnswer.Loaded (counts d); bytes = refilled store (encode d) }
+inferred store (accepted d) = record { answer = LoadAnswer.Loaded (counts (smallestDocument d)); bytes = refilled store (encode (smallestDocument d)) }
 
--- "Given a loaded store, the checker shall put in its own flow and comm sets, whatever was there before"; "The call answers the counts that load would"
+-- "Given a loaded store, the checker shall put in its own flow and comm sets, whatever was there before"
 unfoldable pub infer : Bytes → Outcome LoadAnswer
-infer store = inferred store (andThen (opened store) λ d. accepted (smallestDocument d))
+infer store = inferred store (opened store)

@@ -14,7 +14,7 @@ use Rattle.calls.specs.declared.Counts.{Counts}
 use Rattle.calls.specs.declared.LoadAnswer.{LoadAnswer}
 use Rattle.calls.specs.Layout.{rowsSize, setsSize, claimsStart, commsStart, storeSize, encode, decode, decodeSets, decodeClaims}
 use Rattle.calls.specs.Canonical.{countRows}
-use Rattle.calls.specs.Calls.{Leaves, opened, counts, andThen, refilled}
+use Rattle.calls.specs.Calls.{Leaves, opened, counts, refilled}
 use Rattle.inference.specs.Inference.{smallestDocument, inferred, infer}
 use Rattle.calls.proofs.Codec.{encode-length, decode-encode}
 use Rattle.calls.proofs.Canonical.{drop-thrice}
@@ -60,7 +60,7 @@ module _ (store : Bytes) where
   fixed = take storeSize store
 
   pub refused-store : (r : Refusal) → OpenedIs (opened store) fixed (Opened.Refused r) → Leaves (infer store) (LoadAnswer.Refused r) store
-  unfolding infer andThen inferred
+  unfolding infer inferred
   refused-store r h = rw (refused-is fixed (opened store) r h) (record { answer-is = refl; bytes-are = refl })
 
   module _ (n : ℕ) (o : OpenedIs (opened store) fixed (Opened.Rows n)) where
@@ -77,12 +77,13 @@ module _ (store : Bytes) where
     size-left left h = let l = long-left left h in simp length-take (omega arith)
 
     pub left-store : (left : Bytes) (c : Counts) → Least n store left → c ≡ storeCounts n (take storeSize left) → Leaves (infer store) (LoadAnswer.Loaded c) left
-    unfolding infer andThen inferred refilled
+    unfolding infer inferred refilled
     left-store left c h e =
         let d : Document = decode fixed in
         let d′ = smallestDocument d in
         let w = smallest-well d (opened-is store d (opens .0) .well) in
         let b = stores.bytes-left store d (opens .0) n (opens .1) left h in
-        let back : decode (take storeSize left) ≡ d′ = ap decode (ap (take storeSize) b ∙ take-at (encode d′) (drop storeSize store) storeSize (encode-length d′ (orderly-of d′ w))) ∙ decode-encode d′ (orderly-of d′ w) in
+        let back : decode (take storeSize left) ≡ d′ = ap decode (ap (take storeSize) b ∙ take-at (encode d′) (drop storeSize store) storeSize (encode-length d′ (orderly-of d′ w)))
+        ∙ decode-encode d′ (orderly-of d′ w) in
         let rows : n ≡ length (d′ .rows) = sym (program-length n store) ∙ ap (λ (p : Program). length p) (stores.program-is store d (opens .0) n (opens .1) ∙ sym (same-rows d)) in
         rw (opens .0) (record { answer-is = ap LoadAnswer.Loaded (e ∙ own-counts n (take storeSize left) d′ rows back); bytes-are = b })

@@ -81,7 +81,8 @@ module _ (s : Bytes) (d : Document) (e : opened s ≡ accepted d) (n : ℕ) (q :
   unfolding storeProgram storeRow
   program-is =
       sym (rows-same n s (take storeSize s) few (λ i l. getD-take storeSize s i 0 (omega arith)))
-      ∙ rw q (sym (rows-decoded (take storeSize s))) ∙ ap (λ (x : Bytes). decode x .rows) (opened-is s d e .holds) ∙ ap (λ (x : Document). x .rows) (decode-encode d (orderly-of d (opened-is s d e .well)))
+      ∙ rw q (sym (rows-decoded (take storeSize s))) ∙ ap (λ (x : Bytes). decode x .rows) (opened-is s d e .holds)
+      ∙ ap (λ (x : Document). x .rows) (decode-encode d (orderly-of d (opened-is s d e .well)))
 
   numbers : (r : ℕ) → (nameOf (rowAt (d .rows) r) < rowLimit) × Each (λ n. n < rowLimit) (formNumbers (formIn (rowAt (d .rows) r)))
   unfolding linesOf
@@ -113,7 +114,8 @@ module _ (s : Bytes) (d : Document) (e : opened s ≡ accepted d) (n : ℕ) (q :
         λ m lm.
         let few : m < memberLimit = omega (arith, flags-size (t j)) in
         let b : byteAt s′ (base + j * memberLimit + m) < 2 = h .flags (base + j * memberLimit + m) (omega arith) (omega arith) in
-        let here : getD (take memberLimit (drop (j * memberLimit) (drop base s′))) m 0 ≡ byteAt s′ (base + (j * memberLimit + m)) = getD-take memberLimit (drop (j * memberLimit) (drop base s′)) m 0 few ∙ getD-drop (j * memberLimit) (drop base s′) m 0 ∙ getD-drop base s′ (j * memberLimit + m) 0 in
+        let here : getD (take memberLimit (drop (j * memberLimit) (drop base s′))) m 0 ≡ byteAt s′ (base + (j * memberLimit + m)) =
+        getD-take memberLimit (drop (j * memberLimit) (drop base s′)) m 0 few ∙ getD-drop (j * memberLimit) (drop base s′) m 0 ∙ getD-drop base s′ (j * memberLimit + m) 0 in
         let place : base + (j * memberLimit + m) ≡ base + j * memberLimit + m = omega arith in
         let told : pick (t j (abstractOf m)) 1 0 ≡ byteAt s′ (base + j * memberLimit + m) = rw (tells j m lj few) (flag-is _ b) in
         flag-at (t j) m few ∙ told ∙ sym (here ∙ ap (byteAt s′) place)
@@ -144,7 +146,8 @@ module _ (s : Bytes) (d : Document) (e : opened s ≡ accepted d) (n : ℕ) (q :
         ext-getD 0 (drop claimsStart s′) (drop claimsStart s) (simp length-drop (omega (arith, h .resets .size)))
         (λ i l. getD-drop claimsStart s′ i 0 ∙ h .resets .rest (claimsStart + i) (omega arith) ∙ sym (getD-drop claimsStart s i 0))
         ∙ ap (drop claimsStart) (store-parts s d e)
-        ∙ last-part (rowsPart s d e) (setsBytes (d .flows)) (setsBytes (d .comms)) (claimsPart s d e) (drop storeSize s) (rows-size s d e) (sets-bytes-length (d .flows)) (sets-bytes-length (d .comms))
+        ∙ last-part (rowsPart s d e) (setsBytes (d .flows)) (setsBytes (d .comms)) (claimsPart s d e) (drop storeSize s) (rows-size s d e) (sets-bytes-length (d .flows))
+        (sets-bytes-length (d .comms))
 
     -- the bytes left are those of the document with the smallest tables
     pub bytes-left : s′ ≡ encode (smallestDocument d) ++ drop storeSize s

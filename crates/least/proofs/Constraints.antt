@@ -111,7 +111,13 @@ module _ (P : Constraint → Type 0) where
     constraints-less (Right a) h = h
     constraints-less (Fun f x t) h = h
     constraints-less (Spawn t) h = h
-    constraints-less (Sync e) h = rows-less p (flow e) (flow′ e) (λ s. less e (row s)) (λ s k. each-append (found-less (sendAt p s) (λ (c, m). chans-less p (flow c) (flow′ c) (λ k. less c (row k)) _) (each-left _ _ k)) (found-less (recvAt p s) (λ c. chans-less p (flow c) (flow′ c) (λ k. less c (row k)) _) (each-right (sendConstraints p flow′ r n s) _ k))) h
+    constraints-less (Sync e) h = rows-less p (flow e) (flow′ e) (λ s. less e (row s)) (λ s k. each-append (sends s (each-left _ _ k)) (recvs s (each-right (sendConstraints p flow′ r n s) _ k))) h
+      where
+        sends : (s : ℕ) → Each P (sendConstraints p flow′ r n s) → Each P (sendConstraints p flow r n s)
+        sends s = unfold sendConstraints in found-less (sendAt p s) (λ (c, m). chans-less p (flow c) (flow′ c) (λ k. less c (row k)) _)
+
+        recvs : (s : ℕ) → Each P (recvConstraints p flow′ r n s) → Each P (recvConstraints p flow r n s)
+        recvs s = unfold recvConstraints in found-less (recvAt p s) (λ c. chans-less p (flow c) (flow′ c) (λ k. less c (row k)) _)
     constraints-less (First a) h = rows-less p (flow a) (flow′ a) (λ s. less a (row s)) (λ s k. k) h
     constraints-less (Second a) h = rows-less p (flow a) (flow′ a) (λ s. less a (row s)) (λ s k. k) h
     constraints-less (Case s x t y w) h = rows-less p (flow s) (flow′ s) (λ k. less s (row k)) (λ s k. k) h

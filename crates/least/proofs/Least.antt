@@ -14,7 +14,8 @@ use Rattle.program.specs.Each.{Member, here, there, Each, nil, collect, elem}
 use Rattle.program.specs.Program.{Program, binders, bindAt, formAt, chanAt, chanOf, isValue, valueRow, chanRow}
 use Rattle.program.specs.Flow.{Abstract, Abstract-discrete, u, row, Set, Table}
 use Rattle.program.specs.FlowRule.{Lies, KeepsAll}
-use Rattle.least.specs.Least.{Within, among, Variable, Variable-discrete, name, channel, Constraint, holds, lies, gather, constraints, Sets, bothTables, Membership, sameMembership, asksFor, allConstraints, variableAllowed, memberAllowed, widest, memberships, without, staysOut, rounds, smallest, smallestFlow, smallestComm}
+use Rattle.least.specs.Least.{Within, among, Variable, Variable-discrete, name, channel, Constraint, holds, lies, gather, constraints, Sets, bothTables, Membership, sameMembership, asksFor}
+use Rattle.least.specs.Least.{allConstraints, variableAllowed, memberAllowed, widest, memberships, without, staysOut, rounds, smallest, smallestFlow, smallestComm}
 use Rattle.program.proofs.Each.{each-at, each-imp, each-both, each-member}
 use Rattle.program.proofs.Maybe.{has-elim, bind-elim}
 use Rattle.program.proofs.Sound.Shape.{bind-bound, member-left, member-right}
@@ -27,7 +28,10 @@ use Rattle.least.proofs.Widest.{widestFlow, widestComm, widest-keeps}
 
 membership-same : (x y : Membership) → So (sameMembership x y) → x ≡ y
 unfolding sameMembership
-membership-same (q, a) (s, b) t = let e : q ≡ s = test-elim (Variable-discrete ℕ-discrete q s) (search and-left) in let k : a ≡ b = test-elim (Abstract-discrete ℕ-discrete a b) (search and-right) in rw (e, k)
+membership-same (q, a) (s, b) t =
+    let e : q ≡ s = test-elim (Variable-discrete ℕ-discrete q s) (search and-left) in
+    let k : a ≡ b = test-elim (Abstract-discrete ℕ-discrete a b) (search and-right) in
+    rw (e, k)
 
 same-membership : (x : Membership) → So (sameMembership x x)
 unfolding sameMembership
@@ -98,7 +102,8 @@ module _ (p : Program) where
   lies-at s t h (row r) v = h .1 r (value-bound r v)
 
   -- the constraints of smaller sets are kept by tables that keep every rule
-  all-kept : (flow comm : Table) → KeepsAll p flow comm → (sets : Sets) → ((q : Variable) (a : Abstract) → So (sets q a) → So (bothTables flow comm q a)) → Each (Kept p (bothTables flow comm)) (allConstraints p sets)
+  all-kept : (flow comm : Table) → KeepsAll p flow comm → (sets : Sets) → ((q : Variable) (a : Abstract) → So (sets q a) → So (bothTables flow comm q a))
+      → Each (Kept p (bothTables flow comm)) (allConstraints p sets)
   unfolding allConstraints KeepsAll
   all-kept flow comm keeps sets less =
       gather-iff _ (length p) _ .1 λ r l.
@@ -118,7 +123,8 @@ module _ (p : Program) where
     abbrev Inside : List Membership → Type 0
     Inside out = (q : Variable) (a : Abstract) → So (without p out q a) → So (bothTables flow comm q a)
 
-    asked-inside : (out : List Membership) → Inside out → (q : Variable) (a : Abstract) → So (memberAllowed p a) → (d : Constraint) → Kept p (bothTables flow comm) d → So (asksFor (without p out) (q, a) d) → So (bothTables flow comm q a)
+    asked-inside : (out : List Membership) → Inside out → (q : Variable) (a : Abstract) → So (memberAllowed p a) → (d : Constraint) → Kept p (bothTables flow comm) d
+        → So (asksFor (without p out) (q, a) d) → So (bothTables flow comm q a)
     unfolding asksFor
     asked-inside out h q a v (holds b s) k t = let e = membership-same (q, a) (s, b) t in rw (ap (λ (x : Membership). x .0) e, ap (λ (x : Membership). x .1) e) k
     asked-inside out h q a v (lies from s) k t =

@@ -49,4 +49,3 @@ module _ {A : Type 0} (f : A → Bool) where
           → length (those f xs) ≤ length xs → (length xs ≤ length (those f xs) → Each (λ a. So (f a)) xs) → Each (λ a. So (f a)) (x ∷ xs)
       go true e h l k = e & k (omega arith)
       go false e h l k = absurd (omega arith)
-

@@ -1,7 +1,7 @@
 // Sets, read from a slice at a position: their members are marked in bytes of 0 and 1, and their fault is told.
-use store::Store;
 use read_text::Next;
 use read_text::NumberRead;
+use store::Store;
 ghost use mathlib.Core.Path.{_≡_};
 ghost use lib.ListN.{length, set};
 ghost use Rattle.format.specs.Read.{readMembers, readSet};

@@ -58,7 +58,10 @@ module _ (rows : ℕ) (from to : Variable) (part s s′ : Bytes) (more : Bool) (
               let e : positionOf p + member a ≡ positionOf to + i = omega arith in
               let (q, m) = apart p to (member a) i (h .low) low-to (h .few) (omega arith) e in
               let b : 0 < joined (byteAt s (positionOf to + i)) (byteAt part i) = rw (e, j .joins i (omega arith)) at (h .byte) in
-              let z : byteAt s (positionOf to + i) ≡ 0 = elim (decEq (byteAt s (positionOf to + i)) 0) [ yes y ↦ y | no n ↦ absurd (new (record { low = h .low; few = h .few; byte = rw e (omega arith) })) ] in
+              let z : byteAt s (positionOf to + i) ≡ 0 = elim (decEq (byteAt s (positionOf to + i)) 0) [
+                | yes y ↦ y
+                | no n ↦ absurd (new (record { low = h .low; few = h .few; byte = rw e (omega arith) }))
+              ] in
               let c : 0 < byteAt s (positionOf from + i) = rw (copied .bytes i (omega arith)) at (joined-cases (byteAt s (positionOf to + i)) (byteAt part i) b z) in
               (q, omega arith, record { low = low-from; few = h .few; byte = rw m c })
         ]
@@ -85,7 +88,8 @@ module _ (rows : ℕ) (from to : Variable) (part s s′ : Bytes) (more : Bool) (
   joined-kept e = lies-below-iff rows _ _ .1 λ a l t.
       let f = has-iff s from a .0 t in
       let b : 0 < byteAt part (member a) = rw (copied .bytes (member a) l) (f .byte) in
-      let same : byteAt s (positionOf to + member a) ≡ joined (byteAt s (positionOf to + member a)) (byteAt part (member a)) = ap (λ (x : Bytes). byteAt x (positionOf to + member a)) (sym (j .still e)) ∙ j .joins (member a) l in
+      let same : byteAt s (positionOf to + member a) ≡ joined (byteAt s (positionOf to + member a)) (byteAt part (member a)) =
+      ap (λ (x : Bytes). byteAt x (positionOf to + member a)) (sym (j .still e)) ∙ j .joins (member a) l in
       has-iff s to a .1 (record { low = low-to; few = f .few; byte = joined-same _ (byteAt part (member a)) same b })
 
   joined-flags : Flags s → Flags s′
@@ -164,7 +168,8 @@ module _ (n m : ℕ) (s : Bytes) (size : storeSize ≤ length s) (low : n < rowL
       let old = inside-iff flow comm s .0 h in
       inside-iff flow comm (set s (flowAt n + m) 1) .1 λ p a k. go p a k (old p a) (setAt p (storeFlow s) (storeComm s) a) refl
     where
-      go : (p : Variable) (a : Abstract) → Has (set s (flowAt n + m) 1) p a → (Has s p a → So (setAt p flow comm a)) → (b : Bool) → setAt p (storeFlow s) (storeComm s) a ≡ b → So (setAt p flow comm a)
+      go : (p : Variable) (a : Abstract) → Has (set s (flowAt n + m) 1) p a → (Has s p a → So (setAt p flow comm a)) → (b : Bool) → setAt p (storeFlow s) (storeComm s) a ≡ b
+          → So (setAt p flow comm a)
       go p a k old true e = old (has-iff s p a .0 e)
       go p a k old false e = let (q, i) = put-has p a k (λ h. false≢true (sym e ∙ has-iff s p a .1 h)) in rw (q, i) t
 
@@ -176,7 +181,10 @@ module _ (n m : ℕ) (s : Bytes) (size : storeSize ≤ length s) (low : n < rowL
         size = length-set s (flowAt n + m) 1;
         rows = λ q l. getD-set-other s (flowAt n + m) q 1 0 (λ i. omega arith);
         rest = λ q l. getD-set-other s (flowAt n + m) q 1 0 (λ i. omega arith);
-        flags = λ h q l k. elim (decEq q (flowAt n + m)) [ yes i ↦ rw (i, getD-set-same s (flowAt n + m) 1 0 (omega arith)) (omega arith) | no d ↦ rw (getD-set-other s (flowAt n + m) q 1 0 d) (h q l k) ];
+        flags = λ h q l k. elim (decEq q (flowAt n + m)) [
+          | yes i ↦ rw (i, getD-set-same s (flowAt n + m) 1 0 (omega arith)) (omega arith)
+          | no d ↦ rw (getD-set-other s (flowAt n + m) q 1 0 d) (h q l k)
+        ];
         fewer = omega arith;
         really = λ t. omega arith;
         still = λ t. absurd (false≢true (sym t));

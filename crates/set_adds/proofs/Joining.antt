@@ -80,7 +80,8 @@ joined-more {at} {i} {more} {part} {s} {s′} h l =
       still = λ e. byte-still s′ (at + i) (byteAt part i) (omega arith) ∙ h .still (omega arith);
     }
   where
-    fall : (zeros (set s′ (at + i) (joined (byteAt s′ (at + i)) (byteAt part i))) ≤ zeros s) × (0 < max more (unlessIn (byteAt part i) (byteAt s′ (at + i))) → zeros (set s′ (at + i) (joined (byteAt s′ (at + i)) (byteAt part i))) < zeros s)
+    fall : (zeros (set s′ (at + i) (joined (byteAt s′ (at + i)) (byteAt part i))) ≤ zeros s) × (0 < max more (unlessIn (byteAt part i) (byteAt s′ (at + i)))
+        → zeros (set s′ (at + i) (joined (byteAt s′ (at + i)) (byteAt part i))) < zeros s)
     fall = elim (decEq (unlessIn (byteAt part i) (byteAt s′ (at + i))) 0) [
       | yes e ↦ (rw (byte-still s′ (at + i) (byteAt part i) e) (h .fewer), λ m. rw (byte-still s′ (at + i) (byteAt part i) e) (h .really (omega arith)))
       | no d ↦ (let q = byte-falls s′ (at + i) (byteAt part i) l (omega arith) in (omega (arith, h .fewer), λ m. omega (arith, h .fewer)))

@@ -78,7 +78,8 @@ pub inside-iff : (flow comm : Table) (s : Bytes) → Inside flow comm s ↔ ((p 
 unfolding Inside setAt
 inside-iff flow comm s = (there, λ h. (λ n a t. h (Variable.Name n) a (has-iff s (Variable.Name n) a .0 t), λ c a t. h (Variable.Channel c) a (has-iff s (Variable.Channel c) a .0 t)))
   where
-    there : ((n : ℕ) (a : Abstract) → So (storeFlow s n a) → So (flow n a)) × ((c : ℕ) (a : Abstract) → So (storeComm s c a) → So (comm c a)) → (p : Variable) (a : Abstract) → Has s p a → So (setAt p flow comm a)
+    there : ((n : ℕ) (a : Abstract) → So (storeFlow s n a) → So (flow n a)) × ((c : ℕ) (a : Abstract) → So (storeComm s c a) → So (comm c a)) → (p : Variable) (a : Abstract) → Has s p a
+        → So (setAt p flow comm a)
     there (f, c) (Variable.Name n) a h = unfold setAt in f n a (has-iff s (Variable.Name n) a .1 h)
     there (f, c) (Variable.Channel n) a h = unfold setAt in c n a (has-iff s (Variable.Channel n) a .1 h)
 

@@ -29,7 +29,12 @@ loop-less : tie.Need-loop-less Inv-loop μ-loop
 loop-less c = search needs
 
 loop-again : tie.Need-loop-again Inv-loop μ-loop
-loop-again c = (omega arith, omega arith, omega (arith, c .before .before .before .loop .inv .2, claim-skipped _ (c .before .before .before .before .args .codes .now) (c .before .before .loop-test .taken) (c .if1 .taken)))
+loop-again c = (
+  omega arith,
+  omega arith,
+  omega
+      (arith, c .before .before .before .loop .inv .2, claim-skipped _ (c .before .before .before .before .args .codes .now) (c .before .before .loop-test .taken) (c .if1 .taken)),
+)
 
 add-lines : tie.Need-add-lines Inv-loop μ-loop
 add-lines c = search needs
@@ -38,7 +43,12 @@ loop-less-2 : tie.Need-loop-less-2 Inv-loop μ-loop
 loop-less-2 c = search needs
 
 loop-again-2 : tie.Need-loop-again-2 Inv-loop μ-loop
-loop-again-2 c = (omega arith, omega arith, omega (arith, c .before .before .before .loop .inv .2, claim-counted _ (c .before .before .before .before .args .codes .now) (c .before .before .loop-test .taken) (c .if1 .left)))
+loop-again-2 c = (
+  omega arith,
+  omega arith,
+  omega
+      (arith, c .before .before .before .loop .inv .2, claim-counted _ (c .before .before .before .before .args .codes .now) (c .before .before .loop-test .taken) (c .if1 .left)),
+)
 
 returns : tie.Need-returns Inv-loop μ-loop
 returns c = omega (arith, c .before .loop .inv .2, claims-end _ (c .before .before .args .codes .now) (c .loop-test .left))

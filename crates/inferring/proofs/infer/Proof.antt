@@ -18,13 +18,20 @@ smallest-sets-requires : tie.Need-smallest-sets-requires
 smallest-sets-requires c κs = ready-store _ _ (rw (c .before .before .rows .given .1) at (c .before .before .before .before .«open» .ensures))
 
 slice-reshare-prefix-store-counts : tie.Need-slice-reshare-prefix-store-counts
-slice-reshare-prefix-store-counts c = long-left _ _ (rw (c .before .before .before .before .before .rows .given .1) at (c .before .before .before .before .before .before .before .«open» .ensures)) _ (c .before .before .smallest-sets .ensures)
+slice-reshare-prefix-store-counts c =
+    long-left _ _ (rw (c .before .before .before .before .before .rows .given .1) at (c .before .before .before .before .before .before .before .«open» .ensures)) _
+    (c .before .before .smallest-sets .ensures)
 
 slice-aggregate-store-counts : tie.Need-slice-aggregate-store-counts
-slice-aggregate-store-counts c = sym (size-left _ _ (rw (c .before .before .before .before .before .before .rows .given .1) at (c .before .before .before .before .before .before .before .before .«open» .ensures)) _ (c .before .before .before .smallest-sets .ensures))
+slice-aggregate-store-counts c =
+    sym
+    (size-left _ _ (rw (c .before .before .before .before .before .before .rows .given .1) at (c .before .before .before .before .before .before .before .before .«open» .ensures)) _
+    (c .before .before .before .smallest-sets .ensures))
 
 store-counts-requires : tie.Need-store-counts-requires
-store-counts-requires c κs = size-left _ _ (rw (c .before .before .before .before .before .before .rows .given .1) at (c .before .before .before .before .before .before .before .before .«open» .ensures)) _ (c .before .before .before .smallest-sets .ensures)
+store-counts-requires c κs =
+    size-left _ _ (rw (c .before .before .before .before .before .before .rows .given .1) at (c .before .before .before .before .before .before .before .before .«open» .ensures)) _
+    (c .before .before .before .smallest-sets .ensures)
 
 same-length : tie.Need-same-length
 same-length c = search needs
@@ -36,7 +43,10 @@ same-length-2 : tie.Need-same-length-2
 same-length-2 c = search needs
 
 returns-2 : tie.Need-returns-2
-returns-2 c = left-store _ _ (rw (c .before .before .before .before .before .before .before .rows .given .1) at (c .before .before .before .before .before .before .before .before .before .«open» .ensures)) _ _ (c .before .before .before .before .smallest-sets .ensures) (c .store-counts .ensures)
+returns-2 c =
+    let b = c .before .before .before .before in
+    let d = b .before .before .before .before in
+    left-store _ _ (rw (b .before .before .before .rows .given .1) at (d .before .«open» .ensures)) _ _ (b .smallest-sets .ensures) (c .store-counts .ensures)
 
 pub infer-spec : {M : Type 1} → statement M
 infer-spec =

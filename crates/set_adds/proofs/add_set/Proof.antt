@@ -28,7 +28,11 @@ same-length : tie.Need-same-length
 same-length c = search needs
 
 returns : tie.Need-returns
-returns c = joined-adds _ _ _ _ _ _ _ (c .before .before .before .before .before .before .before .before .before .before .pre .0 .1) (c .before .before .before .before .before .before .before .before .before .before .pre .1 .0) (c .before .before .before .before .before .before .before .before .before .before .pre .1 .1) (rw (c .before .before .before .before .before .before .before .position .ensures) at (c .before .before .before .before .before .before .copy-set .ensures)) (rw (c .before .before .before .before .position2 .ensures) at (c .before .before .join-set .ensures))
+returns c =
+    let b = c .before .before .before .before in
+    let d = b .before .before .before .before in
+    joined-adds _ _ _ _ _ _ _ (d .before .before .pre .0 .1) (d .before .before .pre .1 .0) (d .before .before .pre .1 .1)
+    (rw (b .before .before .before .position .ensures) at (b .before .before .copy-set .ensures)) (rw (b .position2 .ensures) at (c .before .before .join-set .ensures))
 
 pub add-set-spec : {M : Type 1} → statement M
 add-set-spec =

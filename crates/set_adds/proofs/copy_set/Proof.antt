@@ -36,7 +36,12 @@ loop-less : tie.Need-loop-less Inv-loop μ-loop
 loop-less c = search needs
 
 loop-again : tie.Need-loop-again Inv-loop μ-loop
-loop-again c = (omega arith, simp length-set (c .before .before .loop .inv .1), copied-more (c .before .before .before .args .store .now) (c .before .before .loop .set) (c .before .before .before .args .at) (c .before .before .loop .i) (omega arith) (c .before .before .loop .inv .2))
+loop-again c = (
+  omega arith,
+  simp length-set (c .before .before .loop .inv .1),
+  copied-more (c .before .before .before .args .store .now) (c .before .before .loop .set) (c .before .before .before .args .at)
+      (c .before .before .loop .i) (omega arith) (c .before .before .loop .inv .2),
+)
 
 returns : tie.Need-returns Inv-loop μ-loop
 returns c = record { size = omega arith; bytes = λ j l. c .before .loop .inv .2 j (omega arith) }

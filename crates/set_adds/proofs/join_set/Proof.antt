@@ -46,7 +46,12 @@ loop-less : tie.Need-loop-less Inv-loop μ-loop
 loop-less c = search needs
 
 loop-again : tie.Need-loop-again Inv-loop μ-loop
-loop-again c = (omega arith, simp length-set (c .before .before .before .before .before .before .loop .inv .1), rw (c .join .ensures, c .before .larger .ensures, c .before .before .unless-in .ensures) (joined-more (c .before .before .before .before .before .before .loop .inv .2) (omega arith)))
+loop-again c = (
+  omega arith,
+  simp length-set (c .before .before .before .before .before .before .loop .inv .1),
+  rw (c .join .ensures, c .before .larger .ensures, c .before .before .unless-in .ensures)
+      (joined-more (c .before .before .before .before .before .before .loop .inv .2) (omega arith)),
+)
 
 same-length : tie.Need-same-length Inv-loop μ-loop
 same-length c = search needs

@@ -22,7 +22,9 @@ same-length c = search needs
 
 returns : tie.Need-returns
 unfolding chanRule
-returns c = adds-member _ _ (sym (c .before .before .before .before .flow-has .ensures) ∙ c .before .before .before .if1 .taken) (chan-none _ _ (c .before .form-at .ensures) (no-chan (but 1 kinds) (c .before .form-at .result) tt (c .match .keys2)) _ _)
+returns c =
+    adds-member _ _ (sym (c .before .before .before .before .flow-has .ensures) ∙ c .before .before .before .if1 .taken)
+    (chan-none _ _ (c .before .form-at .ensures) (no-chan (but 1 kinds) (c .before .form-at .result) tt (c .match .keys2)) _ _)
 
 end-adds-requires : tie.Need-end-adds-requires
 end-adds-requires c κs = search needs
@@ -32,7 +34,10 @@ same-length-2 c = search needs
 
 returns-2 : tie.Need-returns-2
 unfolding chanRule
-returns-2 c = adds-member _ _ (sym (c .before .before .before .before .before .before .before .before .before .flow-has .ensures) ∙ c .before .before .before .before .before .before .before .before .if1 .taken) (chan-some _ _ (c .before .before .before .before .before .before .form-at .ensures) (c .before .before .before .before .enum-told .given .1) _ (c .before .before .end-adds .ensures))
+returns-2 c =
+    let b = c .before .before .before .before in
+    let d = b .before .before .before .before in
+    adds-member _ _ (sym (d .before .flow-has .ensures) ∙ d .if1 .taken) (chan-some _ _ (b .before .before .form-at .ensures) (b .enum-told .given .1) _ (c .before .before .end-adds .ensures))
 
 same-length-3 : tie.Need-same-length-3
 same-length-3 c = search needs

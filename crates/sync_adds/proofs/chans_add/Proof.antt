@@ -36,7 +36,15 @@ loop-less : tie.Need-loop-less Inv-loop μ-loop
 loop-less c = search needs
 
 loop-again : tie.Need-loop-again Inv-loop μ-loop
-loop-again c = (omega arith, c .before .before .before .chan-adds .ensures .size ∙ c .before .before .before .before .before .before .loop .inv .1, rw (c .either .ensures) (adds-next _ _ (λ p i. chanRule p (c .before .before .before .before .before .before .before .before .args .n) (c .before .before .before .before .before .before .before .before .args .end) (c .before .before .before .before .before .before .before .before .args .c) i) (c .before .before .before .before .before .before .before .before .pre .0 .1) (c .before .before .before .before .before .before .loop .inv .2) (c .before .before .before .chan-adds .ensures)))
+loop-again c = (
+  omega arith,
+  c .before .before .before .chan-adds .ensures .size ∙ c .before .before .before .before .before .before .loop .inv .1,
+  rw (c .either .ensures)
+      (adds-next _ _
+      (λ p i. chanRule p (c .before .before .before .before .before .before .before .before .args .n) (c .before .before .before .before .before .before .before .before .args .end)
+      (c .before .before .before .before .before .before .before .before .args .c) i)
+      (c .before .before .before .before .before .before .before .before .pre .0 .1) (c .before .before .before .before .before .before .loop .inv .2) (c .before .before .before .chan-adds .ensures)),
+)
 
 same-length : tie.Need-same-length Inv-loop μ-loop
 same-length c = c .before .loop .inv .1

@@ -16,7 +16,10 @@ put-member-requires c κs = search needs
 
 add-set-requires : tie.Need-add-set-requires
 unfolding numberOf EndLow
-add-set-requires c κs = ((omega (arith, c .before .before .before .put-member .ensures .size), c .before .before .before .before .before .before .before .before .before .pre .0 .1), (rw (c .before .before .before .before .before .before .end .given .1) at (c .before .before .before .before .before .before .before .before .before .pre .1), c .before .before .before .before .before .before .before .before .before .pre .0 .3))
+add-set-requires c κs =
+    let b = c .before .before .before .before in
+    let d = b .before .before .before .before in
+    ((omega (arith, c .before .before .before .put-member .ensures .size), d .before .pre .0 .1), (rw (b .before .before .end .given .1) at (d .before .pre .1), d .before .pre .0 .3))
 
 either-requires : tie.Need-either-requires
 either-requires c κs = search needs
@@ -26,14 +29,19 @@ enum-told c = search needs
 
 add-set-requires-2 : tie.Need-add-set-requires-2
 unfolding numberOf
-add-set-requires-2 c κs = ((c .before .before .before .before .pre .0 .0, c .before .before .before .before .pre .0 .1), (c .before .before .before .before .pre .0 .3, c .before .before .before .before .pre .0 .2))
+add-set-requires-2 c κs =
+    ((c .before .before .before .before .pre .0 .0, c .before .before .before .before .pre .0 .1), (c .before .before .before .before .pre .0 .3, c .before .before .before .before .pre .0 .2))
 
 same-length : tie.Need-same-length
 same-length c = search needs
 
 returns : tie.Need-returns
 unfolding setAt abstractOf
-returns c = rw (c .before .before .before .before .before .before .before .before .before .before .end .given .1, c .either .ensures) (end-sent _ _ _ _ (c .before .before .before .before .before .before .before .before .before .before .before .before .before .pre .0 .1) (c .before .before .before .before .before .before .before .put-member .ensures) (c .before .before .before .add-set .ensures))
+returns c =
+    let b = c .before .before .before .before in
+    let d = b .before .before .before .before in
+    rw (d .before .before .end .given .1, c .either .ensures)
+    (end-sent _ _ _ _ (d .before .before .before .before .before .pre .0 .1) (b .before .before .before .put-member .ensures) (c .before .before .before .add-set .ensures))
 
 same-length-2 : tie.Need-same-length-2
 same-length-2 c = search needs

@@ -16,33 +16,54 @@ enum-known-channel c = search needs
 
 chans-add-requires : tie.Need-chans-add-requires
 unfolding EndLow
-chans-add-requires c κs = ((c .before .before .before .before .before .before .before .pre .0 .size, c .before .before .before .before .before .before .before .pre .0 .few, c .before .before .before .before .before .before .before .pre .1), send-low (c .before .before .before .before .before .before .before .pre .0) _ (c .before .before .before .before .form-at .ensures) (c .before .before .channel .given .1))
+chans-add-requires c κs = (
+  (
+    c .before .before .before .before .before .before .before .pre .0 .size,
+    c .before .before .before .before .before .before .before .pre .0 .few,
+    c .before .before .before .before .before .before .before .pre .1,
+  ),
+  send-low (c .before .before .before .before .before .before .before .pre .0) _ (c .before .before .before .before .form-at .ensures) (c .before .before .channel .given .1),
+)
 
 enum-known-channel-2 : tie.Need-enum-known-channel-2
 enum-known-channel-2 c = search needs
 
 chans-add-requires-2 : tie.Need-chans-add-requires-2
 unfolding EndLow
-chans-add-requires-2 c κs = ((c .before .before .before .before .before .before .before .pre .0 .size, c .before .before .before .before .before .before .before .pre .0 .few, c .before .before .before .before .before .before .before .pre .1), tt)
+chans-add-requires-2 c κs = (
+  (
+    c .before .before .before .before .before .before .before .pre .0 .size,
+    c .before .before .before .before .before .before .before .pre .0 .few,
+    c .before .before .before .before .before .before .before .pre .1,
+  ),
+  tt,
+)
 
 same-length : tie.Need-same-length
 same-length c = search needs
 
 returns : tie.Need-returns
-returns c = sync-send _ _ _ (c .before .before .before .before .before .before .before .form-at .ensures) (c .before .before .before .before .before .channel .given .1) (c .before .before .chans-add .ensures)
+returns c =
+    sync-send _ _ _ (c .before .before .before .before .before .before .before .form-at .ensures) (c .before .before .before .before .before .channel .given .1)
+    (c .before .before .chans-add .ensures)
 
 same-length-2 : tie.Need-same-length-2
 same-length-2 c = search needs
 
 returns-2 : tie.Need-returns-2
-returns-2 c = sync-recv _ _ _ (c .before .before .before .before .before .before .before .form-at .ensures) (c .before .before .before .before .before .channel2 .given .1) (c .before .before .chans-add2 .ensures)
+returns-2 c =
+    sync-recv _ _ _ (c .before .before .before .before .before .before .before .form-at .ensures) (c .before .before .before .before .before .channel2 .given .1)
+    (c .before .before .chans-add2 .ensures)
 
 same-length-3 : tie.Need-same-length-3
 same-length-3 c = search needs
 
 returns-3 : tie.Need-returns-3
 unfolding syncRule when
-returns-3 c = adds-none _ _ (λ flow comm. rw (send-at _ _ (c .before .form-at .ensures), recv-at _ _ (c .before .form-at .ensures), no-send (but 2 (but 3 kinds)) _ tt (c .match .keys3), no-recv (but 2 (but 3 kinds)) _ tt (c .match .keys3)))
+returns-3 c =
+    adds-none _ _
+    (λ flow comm. rw
+    (send-at _ _ (c .before .form-at .ensures), recv-at _ _ (c .before .form-at .ensures), no-send (but 2 (but 3 kinds)) _ tt (c .match .keys3), no-recv (but 2 (but 3 kinds)) _ tt (c .match .keys3)))
 
 pub sync-adds-spec : {M : Type 1} → statement M
 sync-adds-spec =
