@@ -42,7 +42,7 @@ pub extern "C" fn dispenser_verdict(store: &[u8], channel: usize) -> u64
     ensures { λ _. ⌜ now (store .exit) ≡ now (store .entry) ⌝ }
 {
     let answer = checker::verdict(store, channel);
-    packing::pack_verdict(answer)
+    pack_words::pack_verdict(answer)
 }
 
 // Writes the text of a store into the lent output: the bytes written.

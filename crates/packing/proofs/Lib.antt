@@ -1,3 +1,2 @@
 -- Laws that the proofs of the functions share, and that packing loses nothing.
-pub mod Words
 pub mod Unpacking

@@ -1,41 +1,14 @@
 // Answers as 64-bit numbers. `specs/Packing` says where each part of an answer stands.
 use calls::JudgeAnswer;
 use calls::LoadAnswer;
-use calls::VerdictAnswer;
-use calls::VerdictStatus;
 use calls::WriteAnswer;
-use format::Reason;
 use format::Refusal;
+use refusal_numbers::number;
 ghost use mathlib.Core.Path.{_≡_};
 ghost use Prim.Native.Nat.{_+_, _*_, _^_, _<_};
-ghost use lib.ListN.{length};
 ghost use Rattle.format.specs.Refusals.{number};
-ghost use Rattle.calls.specs.Answers.{loadAnswer, judgeAnswer, verdictAnswer, writeAnswer};
-ghost use Rattle.packing.specs.Packing.{packed, countBits, wordBits, numberBits, Lossless};
-
-// Document 01's number of a refusal.
-pub fn number(reason: Reason) -> u8
-    ensures { λ n. ⌜ n ≡ number reason ⌝ }
-{
-    match reason {
-        Reason::TooLong => 1,
-        Reason::NotALine => 2,
-        Reason::AboveLimit => 3,
-        Reason::OutOfCount => 4,
-        Reason::NotRising => 5,
-        Reason::WrongPointer => 6,
-        Reason::BoundTwice => 7,
-        Reason::OutOfScope => 8,
-        Reason::NotAllowed => 9,
-        Reason::FlowRuleFails => 10,
-        Reason::ClaimFails => 11,
-        Reason::StoreTooShort => 20,
-        Reason::StoreEmpty => 21,
-        Reason::StoreUnsound => 22,
-        Reason::OutputTooShort => 23,
-        Reason::NotAChannel => 24,
-    }
-}
+ghost use Rattle.calls.specs.Answers.{loadAnswer, judgeAnswer, writeAnswer};
+ghost use Rattle.packing.specs.Packing.{packed, countBits, numberBits, Lossless};
 
 // The refusal's number, and its line above it.
 pub fn pack_refusal(refusal: Refusal) -> u64
@@ -74,24 +47,6 @@ pub fn pack_judge(answer: JudgeAnswer) -> u64
     match answer {
         JudgeAnswer::Refused(refusal) => pack_refusal(refusal),
         JudgeAnswer::Accepted(count) => 256 * (count as u64),
-    }
-}
-
-// The four words, a bit each, above a byte of 0.
-pub fn pack_verdict(answer: VerdictAnswer) -> u64
-    requires { ⌜ Lossless wordBits (verdictAnswer answer) ⌝ }
-    requires { ⌜ length (answer .words) ≡ 4 ⌝ }
-    ensures { λ n. ⌜ n ≡ packed wordBits (verdictAnswer answer) ⌝ }
-{
-    let words = answer.words;
-    let one_shot = words[0] as u64;
-    let one_to_one = words[1] as u64;
-    let fan_out = words[2] as u64;
-    let fan_in = words[3] as u64;
-    let status = answer.status;
-    match status {
-        VerdictStatus::Refused(refusal) => pack_refusal(refusal),
-        VerdictStatus::Given => 256 * (one_shot + 2 * (one_to_one + 2 * (fan_out + 2 * fan_in))),
     }
 }
 

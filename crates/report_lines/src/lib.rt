@@ -13,7 +13,7 @@ pub fn put_refused(out: &mut [u8], at: usize, refusal: Refusal) -> usize
 {
     let line = refusal.line as u16;
     let reason = refusal.reason;
-    let code = packing::number(reason) as u16;
+    let code = refusal_numbers::number(reason) as u16;
     let p = write_text::put_word(out, at, b"[refused");
     let q = write_text::put_argument(out, p, code);
     let r = write_text::put_argument(out, q, line);

@@ -18,7 +18,7 @@ fn print_number(n: usize) {
 fn print_refusal(refusal: Refusal) {
     let line = refusal.line;
     let reason = refusal.reason;
-    let number = packing::number(reason);
+    let number = refusal_numbers::number(reason);
     io::write_all(1, b"[refused");
     print_number(number as usize);
     print_number(line);

@@ -1,27 +1,13 @@
-// The text of the document in a store, written into a slice at a position. What does not fit the slice is not written, and counts all the same.
+// The text of the document in the store at the head of a slice, written into another, and its length.
 use store::Store;
-use write_claims::put_claims;
-use write_rows::put_rows;
-use write_sets::put_sets;
+use write_store::put_store;
 ghost use mathlib.Core.Path.{_≡_};
 ghost use Prim.Native.Nat.{_≤_};
 ghost use lib.ListN.{length, take};
 ghost use Rattle.format.specs.Print.{documentText};
 ghost use Rattle.calls.specs.Layout.{storeSize};
-ghost use Rattle.write_text.specs.Write.{Room, Wrote};
+ghost use Rattle.write_text.specs.Write.{Wrote};
 ghost use Rattle.store.specs.Document.{storeDocument};
-
-// Writes the document of the bytes of a store with so many rows.
-fn put_store(out: &mut [u8], store: &[u8], rows: u8) -> usize
-    requires { ⌜ length (now store) ≡ storeSize ⌝ }
-    ensures { λ r. ⌜ Wrote (now (out .entry)) 0 (documentText (storeDocument rows (now (store .entry)))) r (now (out .exit)) ⌝ }
-{
-    let a = write_text::put_word(out, 0, b"[dispenser 1]\n");
-    let b = put_rows(out, a, store, rows);
-    let c = put_sets(out, b, b"[flow", &store[Store::FLOWS..]);
-    let d = put_sets(out, c, b"[comm", &store[Store::COMMS..]);
-    put_claims(out, d, &store[Store::CLAIMS..])
-}
 
 // Writes the document of the store at the head of a slice, with so many rows, and returns the length of its text.
 pub fn put_document(out: &mut [u8], store: &[u8], rows: u8) -> usize

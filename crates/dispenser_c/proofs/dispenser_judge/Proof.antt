@@ -4,7 +4,7 @@ use mathlib.Core.Path.{refl, ap, _∙_}
 use Rattle.calls.specs.declared.JudgeAnswer.{JudgeAnswer}
 use Rattle.calls.specs.Answers.{judgeAnswer}
 use Rattle.packing.specs.Packing.{packed, numberBits}
-use Rattle.dispenser_c.proofs.Bounds.{judge-lossless}
+use Rattle.lossless.proofs.Lossless.{judge-lossless}
 use Rattle.dispenser_c.proofs.dispenser_judge.Statement.{statement}
 use Rattle.dispenser_c.proofs.dispenser_judge.Tie as tie
 

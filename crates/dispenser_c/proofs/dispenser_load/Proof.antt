@@ -4,7 +4,7 @@ use mathlib.Core.Path.{ap, _∙_}
 use Rattle.calls.specs.declared.LoadAnswer.{LoadAnswer}
 use Rattle.calls.specs.Answers.{loadAnswer}
 use Rattle.packing.specs.Packing.{packed, countBits}
-use Rattle.dispenser_c.proofs.Bounds.{load-lossless}
+use Rattle.lossless.proofs.Lossless.{load-lossless}
 use Rattle.dispenser_c.proofs.dispenser_load.Statement.{statement}
 use Rattle.dispenser_c.proofs.dispenser_load.Tie as tie
 

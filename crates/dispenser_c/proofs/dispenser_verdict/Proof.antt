@@ -5,7 +5,7 @@ use Rattle.calls.specs.declared.VerdictAnswer.{VerdictAnswer}
 use Rattle.calls.specs.Answers.{verdictAnswer}
 use Rattle.bounds.proofs.Bounds.{four-words}
 use Rattle.packing.specs.Packing.{packed, wordBits}
-use Rattle.dispenser_c.proofs.Bounds.{verdict-lossless}
+use Rattle.lossless.proofs.Lossless.{verdict-lossless}
 use Rattle.dispenser_c.proofs.dispenser_verdict.Statement.{statement}
 use Rattle.dispenser_c.proofs.dispenser_verdict.Tie as tie
 

@@ -4,7 +4,7 @@ use mathlib.Core.Path.{ap, _∙_}
 use Rattle.calls.specs.declared.WriteAnswer.{WriteAnswer}
 use Rattle.calls.specs.Answers.{writeAnswer}
 use Rattle.packing.specs.Packing.{packed, numberBits}
-use Rattle.dispenser_c.proofs.Bounds.{write-lossless}
+use Rattle.lossless.proofs.Lossless.{write-lossless}
 use Rattle.dispenser_c.proofs.dispenser_write.Statement.{statement}
 use Rattle.dispenser_c.proofs.dispenser_write.Tie as tie
 

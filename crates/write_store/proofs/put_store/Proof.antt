@@ -7,10 +7,10 @@ use Rattle.format.specs.Text.{ascii}
 use Rattle.calls.specs.Layout.{rowsSize, commsStart, claimsStart}
 use Rattle.write_text.specs.Write.{Room}
 use Rattle.write_text.proofs.Writing.{then, room-first, room-then}
-use Rattle.writing.proofs.Bounds.{stored-room}
-use Rattle.writing.proofs.Parts.{behind-length, partsText, stored-parts}
-use Rattle.writing.proofs.put_store.Statement.{statement}
-use Rattle.writing.proofs.put_store.Tie as tie
+use Rattle.write_store.proofs.Bounds.{stored-room}
+use Rattle.write_store.proofs.Parts.{behind-length, partsText, stored-parts}
+use Rattle.write_store.proofs.put_store.Statement.{statement}
+use Rattle.write_store.proofs.put_store.Tie as tie
 
 room : (c : tie.Start) → Room 0 (partsText (c .args .rows) (c .args .store .now))
 room c = stored-room (c .args .rows) (c .args .store .now) (c .fits .rows .fits) (c .pre)

@@ -25,7 +25,7 @@ use Rattle.bounds.proofs.Bounds.{Within, line-within, values-within, OpensTo, n
 use Rattle.store.specs.Document.{storeDocument}
 use Rattle.store.proofs.Document.{document-is}
 use Rattle.report.proofs.Report.{report-short}
-use Rattle.writing.proofs.Bounds.{stored-bound}
+use Rattle.write_store.proofs.Bounds.{stored-bound}
 use Rattle.packing.specs.Packing.{packed, countBits, wordBits, numberBits, Short, Lossless}
 use Rattle.packing.proofs.Unpacking.{unpacked, load-back, judge-back, verdict-back, write-back}
 

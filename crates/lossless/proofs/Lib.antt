@@ -1,2 +1,2 @@
 -- Every answer of the calls is packed without loss.
-pub mod Bounds
+pub mod Lossless

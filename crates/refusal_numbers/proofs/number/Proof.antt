@@ -1,8 +1,8 @@
 -- In each arm the number computes.
 use borrow.Author.Needs.{needs}
 use Rattle.format.specs.Refusals.{number}
-use Rattle.packing.proofs.number.Statement.{statement}
-use Rattle.packing.proofs.number.Tie as tie
+use Rattle.refusal_numbers.proofs.number.Statement.{statement}
+use Rattle.refusal_numbers.proofs.number.Tie as tie
 
 enum-told : tie.Need-enum-told
 enum-told c = search needs

@@ -2,10 +2,10 @@
 use borrow.Author.Needs.{needs}
 use native.Mathlib.Omega.{arith}
 use Rattle.calls.specs.Answers.{refusalAnswer, statusAnswer, verdictAnswer}
 use Rattle.packing.specs.Packing.{packed}
-use Rattle.packing.proofs.Words.{bits-low, four-bits}
-use Rattle.packing.proofs.pack_verdict.Statement.{statement}
-use Rattle.packing.proofs.pack_verdict.Tie as tie
+use Rattle.pack_words.proofs.Words.{bits-low, four-bits}
+use Rattle.pack_words.proofs.pack_verdict.Statement.{statement}
+use Rattle.pack_words.proofs.pack_verdict.Tie as tie
 
 array-read-one-shot : tie.Need-array-read-one-shot
 array-read-one-shot c = search needs

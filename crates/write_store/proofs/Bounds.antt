@@ -27,7 +27,7 @@ use Rattle.store.specs.Document.{storeDocument}
 use Rattle.write_sets.specs.Texts.{entryText}
 use Rattle.write_sets.proofs.Parts.{with-entry}
 use Rattle.write_claims.proofs.Claims.{claimsText}
-use Rattle.writing.proofs.Parts.{document-parts, partsText, stored-parts}
+use Rattle.write_store.proofs.Parts.{document-parts, partsText, stored-parts}
 
 -- ---- numbers
 

@@ -1,0 +1,2 @@
+-- Laws that the proof of `pack_verdict` rests on.
+pub mod Words

@@ -1,0 +1,3 @@
+-- Laws that the proof of `put_store` rests on.
+pub mod Parts
+pub mod Bounds

@@ -1,0 +1,23 @@
+// The text of the document in the bytes of a store, written into a slice. What does not fit the slice is not written, and counts all the same.
+use store::Store;
+use write_claims::put_claims;
+use write_rows::put_rows;
+use write_sets::put_sets;
+ghost use mathlib.Core.Path.{_≡_};
+ghost use lib.ListN.{length};
+ghost use Rattle.format.specs.Print.{documentText};
+ghost use Rattle.calls.specs.Layout.{storeSize};
+ghost use Rattle.write_text.specs.Write.{Wrote};
+ghost use Rattle.store.specs.Document.{storeDocument};
+
+// Writes the document of the bytes of a store with so many rows.
+pub fn put_store(out: &mut [u8], store: &[u8], rows: u8) -> usize
+    requires { ⌜ length (now store) ≡ storeSize ⌝ }
+    ensures { λ r. ⌜ Wrote (now (out .entry)) 0 (documentText (storeDocument rows (now (store .entry)))) r (now (out .exit)) ⌝ }
+{
+    let a = write_text::put_word(out, 0, b"[dispenser 1]\n");
+    let b = put_rows(out, a, store, rows);
+    let c = put_sets(out, b, b"[flow", &store[Store::FLOWS..]);
+    let d = put_sets(out, c, b"[comm", &store[Store::COMMS..]);
+    put_claims(out, d, &store[Store::CLAIMS..])
+}
