@@ -45,11 +45,11 @@ pub data Within (line value : ℕ) : Answer → Type 0 where
 -- ---- counts
 
 -- each kind of line at most once for each row number
-record Few (d : Document) : Type 0 where
-  few-rows : length (d .rows) ≤ rowLimit
-  few-flows : length (d .flows) ≤ rowLimit
-  few-comms : length (d .comms) ≤ rowLimit
-  few-claims : length (d .claims) ≤ rowLimit
+pub record Few (d : Document) : Type 0 where
+  pub few-rows : length (d .rows) ≤ rowLimit
+  pub few-flows : length (d .flows) ≤ rowLimit
+  pub few-comms : length (d .comms) ≤ rowLimit
+  pub few-claims : length (d .claims) ≤ rowLimit
 
 entry-few : (n : ℕ) (ms : List ℕ) (es : List Entry) → length (withEntry n ms es) ≤ suc (length es)
 unfolding withEntry
@@ -83,7 +83,7 @@ decoded-few s h =
       few-claims = omega (arith, claims-few 0 (drop setsSize more), length-drop setsSize more, length-drop setsSize sets, length-drop rowsSize s);
     }
 
-orderly-few : (d : Document) → So (orderly d) → Few d
+pub orderly-few : (d : Document) → So (orderly d) → Few d
 orderly-few d ok = subst (λ (x : Document). Few x) (decode-encode d ok) (decoded-few (encode d) (omega (arith, encode-length d ok)))
 
 -- ---- lines

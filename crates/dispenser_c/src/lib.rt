@@ -3,6 +3,7 @@ use store::Store;
 ghost use mathlib.Core.Path.{_≡_};
 ghost use Rattle.calls.specs.Layout.{storeSize};
 ghost use Rattle.calls.specs.Calls.{load, judge, verdict, write};
+ghost use Rattle.inference.specs.Inference.{infer};
 ghost use Rattle.report.specs.Report.{reportLimit, reported};
 ghost use Rattle.calls.specs.Answers.{loadAnswer, judgeAnswer, verdictAnswer, writeAnswer};
 ghost use Rattle.packing.specs.Packing.{packed, countBits, wordBits, numberBits};
@@ -53,6 +54,16 @@ pub extern "C" fn dispenser_write(store: &[u8], out: &mut [u8]) -> u64
 {
     let answer = checker::write(store, out);
     packing::pack_write(answer)
+}
+
+// Puts the smallest tables in the place of the lent store's own: rows, flows, comms and claims then.
+#[no_mangle]
+pub extern "C" fn dispenser_infer(store: &mut [u8]) -> u64
+    ensures { λ n. ⌜ n ≡ packed countBits (loadAnswer (infer (now (store .entry)) .answer)) ⌝ }
+    ensures { λ _. ⌜ now (store .exit) ≡ infer (now (store .entry)) .bytes ⌝ }
+{
+    let answer = checker::infer(store);
+    packing::pack_load(answer)
 }
 
 // The bytes that the output of a report must have.

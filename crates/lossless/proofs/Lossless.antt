@@ -7,12 +7,14 @@ use mathlib.Core.Path.{_≡_, refl}
 use lib.ListN.{length, take, drop, length-take}
 use lib.Dec.{ltb}
 use Rattle.program.specs.Each.{Each, nil, _&_}
+use Rattle.program.proofs.Test.{and-left}
 use Rattle.format.specs.Limits.{rowLimit}
 use Rattle.format.specs.Text.{Bytes}
 use Rattle.format.specs.declared.Reason.the-variants.{StoreTooShort, OutputTooShort}
 use Rattle.format.specs.Refusals.{refusal, Result, refused, accepted}
 use Rattle.format.specs.Document.{Document}
 use Rattle.format.specs.Print.{documentText}
+use Rattle.format.specs.WellFormed.{orderly, wellFormed}
 use Rattle.calls.specs.declared.WriteAnswer.{WriteAnswer}
 use Rattle.calls.specs.Answers.{Answer, turnedBack, answered, refusalAnswer, loadAnswer, judgeAnswer, verdictAnswer, writeAnswer}
 use Rattle.calls.specs.Layout.{storeSize, decode}
@@ -21,7 +23,12 @@ use Rattle.calls.specs.Calls.{opened, andThen, load, judge, verdict, written, w
 use Rattle.report.specs.Report.{report, reportLimit, Reporting, reported}
 use Rattle.calls.proofs.Canonical.Rows.{count-rows-le}
 use Rattle.calls.proofs.Codec.Sparse.{either}
-use Rattle.bounds.proofs.Bounds.{Within, line-within, values-within, OpensTo, not-opened, decoded, opens-to, load-within, judge-within, verdict-within, four-words}
+use Rattle.calls.specs.Exact.{Closed}
+use Rattle.calls.proofs.Exact.{holds-well}
+use Rattle.inference.specs.Inference.{infer}
+use Rattle.inference.specs.Inferred.{InferIs}
+use Rattle.inference.proofs.Inference.{infer-exact}
+use Rattle.bounds.proofs.Bounds.{orderly-few, Within, line-within, values-within, OpensTo, not-opened, decoded, opens-to, load-within, judge-within, verdict-within, four-words}
 use Rattle.store.specs.Document.{storeDocument}
 use Rattle.store.proofs.Document.{document-is}
 use Rattle.report.proofs.Report.{report-short}
@@ -80,7 +87,20 @@ report-within file store out = go (ltb (length store) storeSize) (ltb (length ou
     go false true = line-within {l = 0} (omega arith)
     go false false = values-within (report-short file & nil)
 
--- ---- the five calls: each answer is packed without loss, so that what a caller reads in the number is the answer
+-- ---- infer
+
+infer-within : (store : Bytes) → Within 0 rowLimit (loadAnswer (infer store .answer))
+infer-within store = go _ (infer-exact store)
+  where
+    go : (a : Answer) → InferIs store a → Within 0 rowLimit a
+    go a (InferIs.closed (Closed.too-short l) e) = line-within {l = 0} (omega arith)
+    go a (InferIs.closed (Closed.empty l z) e) = line-within {l = 0} (omega arith)
+    go a (InferIs.closed (Closed.unsound l z h) e) = line-within {l = 0} (omega arith)
+    go a (InferIs.infers d d′ h i) =
+        let few = orderly-few d′ (unfold wellFormed in and-left (orderly d′) _ (holds-well (infer store .bytes) d′ (i .holds))) in
+        values-within (few .few-rows & few .few-flows & few .few-comms & few .few-claims & nil)
+
+-- ---- the six calls: each answer is packed without loss, so that what a caller reads in the number is the answer
 
 pub load-lossless : (file store : Bytes) → Lossless countBits (loadAnswer (load file store .answer))
 load-lossless file store = lossless _ _ countBits (omega arith) (omega arith) _ (load-within file store)
@@ -111,3 +131,9 @@ report-lossless file store out = lossless 0 reportLimit numberBits (omega arith)
 
 pub report-read : (file store out : Bytes) → let a = writeAnswer (reported file store out .answer) in unpacked numberBits 1 (packed numberBits a) ≡ a
 report-read file store out = write-back (reported file store out .answer) (report-lossless file store out)
+
+pub infer-lossless : (store : Bytes) → Lossless countBits (loadAnswer (infer store .answer))
+infer-lossless store = lossless 0 rowLimit countBits (omega arith) (omega arith) _ (infer-within store)
+
+pub infer-read : (store : Bytes) → let a = loadAnswer (infer store .answer) in unpacked countBits 4 (packed countBits a) ≡ a
+infer-read store = load-back (infer store .answer) (infer-lossless store)
