@@ -38,7 +38,7 @@ pub fn verdict(store: &[u8], channel: usize) -> VerdictAnswer
     ensures { λ a. ⌜ Leaves (unaltered (verdict (now (store .entry)) channel) (now (store .entry))) a (now (store .exit)) ⌝ }
 {
     match opening::open(store) {
-        Opened::Refused(refusal) => judging::no_verdict(refusal),
+        Opened::Refused(refusal) => judge_answers::no_verdict(refusal),
         Opened::Rows(rows) => judging::verdict_rows(&store[..Store::SIZE], rows, channel),
     }
 }

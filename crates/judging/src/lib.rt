@@ -2,52 +2,22 @@
 use calls::JudgeAnswer;
 use calls::VerdictAnswer;
 use calls::VerdictStatus;
-use format::Reason;
-use format::Refusal;
 use grids::GRID;
+use judge_answers::flow_refusal;
+use judge_answers::no_verdict;
+use judge_answers::not_a_channel;
 use store::Store;
 ghost use mathlib.Core.Path.{_≡_};
 ghost use Prim.Native.Nat.{_≤_};
 ghost use lib.ListN.{length};
 ghost use Rattle.format.specs.Limits.{rowLimit, lineLimit};
-ghost use Rattle.format.specs.Refusals.{refusal};
-ghost use Rattle.format.specs.Structure.{rowLine, claimLine};
+ghost use Rattle.format.specs.Structure.{claimLine};
 ghost use Rattle.calls.specs.Layout.{storeSize, decode};
 ghost use Rattle.calls.specs.Canonical.{countRows};
 ghost use Rattle.calls.specs.Judging.{judgeDocument};
-ghost use Rattle.calls.specs.Calls.{judgeAnswered, noVerdict, verdictGiven, verdictOf};
+ghost use Rattle.calls.specs.Calls.{judgeAnswered, verdictGiven, verdictOf};
 ghost use Rattle.grids.specs.Grid.{gridSize};
 ghost use Rattle.judging.specs.Judged.{Judged};
-
-// 10, at the line of a row.
-fn flow_refusal(row: u8) -> Refusal
-    ensures { λ r. ⌜ r ≡ refusal Reason.FlowRuleFails (rowLine row) ⌝ }
-{
-    Refusal {
-        reason: Reason::FlowRuleFails,
-        line: row as usize + 2,
-    }
-}
-
-// A verdict that is not given: no word holds.
-pub fn no_verdict(refusal: Refusal) -> VerdictAnswer
-    ensures { λ a. ⌜ a ≡ noVerdict refusal ⌝ }
-{
-    VerdictAnswer {
-        status: VerdictStatus::Refused(refusal),
-        words: [false, false, false, false],
-    }
-}
-
-// 24: the number is no chan row.
-fn not_a_channel() -> VerdictAnswer
-    ensures { λ a. ⌜ a ≡ noVerdict (refusal Reason.NotAChannel 0) ⌝ }
-{
-    no_verdict(Refusal {
-        reason: Reason::NotAChannel,
-        line: 0,
-    })
-}
 
 // The line of the first claim in the text that write would give.
 fn claim_line(store: &[u8], rows: u8) -> usize

@@ -34,7 +34,7 @@ use Rattle.opening.specs.declared.Opened.{Opened}
 use Rattle.opening.specs.Opening.{OpenedIs}
 use Rattle.opening.proofs.Opening.{refused-is, opens-is, opens-long}
 use Rattle.judging.proofs.Documents.{few-rows}
-use Rattle.reporting.proofs.Rows.{row-count}
+use Rattle.channel_lines.proofs.Rows.{row-count}
 
 -- ---- numbers
 

@@ -2,27 +2,21 @@
 use calls::JudgeAnswer;
 use calls::LoadAnswer;
 use calls::WriteAnswer;
+use channel_lines::put_channels;
 use format::Reason;
 use format::Refusal;
 use grids::GRID;
 use opening::Opened;
 use report_lines::put_accepted;
-use report_lines::put_channel;
 use report_lines::put_refused;
 use store::Store;
 ghost use Prim.Native.Nat.{_≤_};
 ghost use lib.ListN.{length};
 ghost use mathlib.Core.Path.{_≡_};
-ghost use Rattle.program.specs.Verdict.{reach};
-ghost use Rattle.format.specs.Limits.{rowLimit};
-ghost use Rattle.calls.specs.Layout.{storeSize, decode};
-ghost use Rattle.calls.specs.Canonical.{countRows};
+ghost use Rattle.calls.specs.Layout.{storeSize};
 ghost use Rattle.calls.specs.Calls.{opened};
-ghost use Rattle.report.specs.Report.{channelLine, channelLines, checkedText, report, reportLimit, LeavesReport, reported};
-ghost use Rattle.write_text.specs.Write.{Room, Wrote};
-ghost use Rattle.store.specs.Rows.{storeProgram};
-ghost use Rattle.tables.specs.Tables.{storeFlow};
-ghost use Rattle.grids.specs.Grid.{gridSize, Shows};
+ghost use Rattle.report.specs.Report.{checkedText, report, reportLimit, LeavesReport, reported};
+ghost use Rattle.write_text.specs.Write.{Wrote};
 ghost use Rattle.reporting.specs.Reports.{FileReported};
 
 // No report is longer: 32 bytes for each row's line and for a first line.
@@ -33,37 +27,6 @@ pub fn report_limit() -> usize
     ensures { λ n. ⌜ n ≡ reportLimit ⌝ }
 {
     REPORT_BYTES
-}
-
-// Writes the line of a chan row, told by a grid of which rows reach which; nothing of another row.
-fn put_row(out: &mut [u8], at: usize, store: &[u8], rows: u8, grid: &[u8], row: u8) -> usize
-    requires { ⌜ (storeSize ≤ length (now store)) × (rows ≡ countRows rowLimit (now store)) × (gridSize ≤ length (now grid)) ⌝ }
-    requires { ⌜ Shows (reach (storeProgram rows (now store)) (storeFlow (now store))) (now grid) ⌝ }
-    requires { ⌜ Room at (channelLine (decode (now store)) row) ⌝ }
-    ensures { λ r. ⌜ Wrote (now (out .entry)) at (channelLine (decode (now (store .entry))) row) r (now (out .exit)) ⌝ }
-{
-    if forms::is_chan(store, rows, row) {
-        let words = verdicts::words(store, rows, grid, row);
-        let number = row as u16;
-        return put_channel(out, at, number, words[0], words[1], words[2], words[3]);
-    }
-    at
-}
-
-// Writes the lines of the chan rows, rows rising.
-fn put_channels(out: &mut [u8], at: usize, store: &[u8], rows: u8, grid: &[u8]) -> usize
-    requires { ⌜ (storeSize ≤ length (now store)) × (rows ≡ countRows rowLimit (now store)) × (gridSize ≤ length (now grid)) ⌝ }
-    requires { ⌜ Shows (reach (storeProgram rows (now store)) (storeFlow (now store))) (now grid) ⌝ }
-    requires { ⌜ Room at (channelLines (decode (now store))) ⌝ }
-    ensures { λ r. ⌜ Wrote (now (out .entry)) at (channelLines (decode (now (store .entry)))) r (now (out .exit)) ⌝ }
-{
-    let mut next = at;
-    let mut row = 0;
-    while row < rows {
-        next = put_row(out, next, store, rows, grid, row);
-        row += 1;
-    }
-    next
 }
 
 // Writes the report of a store: why it does not open, or what judging it gives.

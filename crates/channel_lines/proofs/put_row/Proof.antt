@@ -1,11 +1,13 @@
 -- The line of a chan row has the words that the grid tells; another row has no line.
+use native.Mathlib.Omega.{arith}
 use mathlib.Core.Path.{sym, _∙_}
 use Rattle.write_text.proofs.Writing.{nothing}
-use Rattle.judging.proofs.Documents.{few-rows}
-use Rattle.reporting.proofs.Rows.{channel-line, no-line}
+use Rattle.format.specs.Limits.{rowLimit}
+use Rattle.calls.proofs.Canonical.Rows.{count-rows-le}
+use Rattle.channel_lines.proofs.Rows.{channel-line, no-line}
 use borrow.Author.Needs.{needs}
-use Rattle.reporting.proofs.put_row.Statement.{statement}
-use Rattle.reporting.proofs.put_row.Tie as tie
+use Rattle.channel_lines.proofs.put_row.Statement.{statement}
+use Rattle.channel_lines.proofs.put_row.Tie as tie
 
 is-chan-requires : tie.Need-is-chan-requires
 is-chan-requires c κs = search needs
@@ -14,7 +16,7 @@ words-requires : tie.Need-words-requires
 words-requires c κs =
     let start = c .before .before .before .before .before in
     let (size, counted, big) = start .pre .0 in
-    ((size, few-rows _ _ counted, big), start .pre .1 .0)
+    ((size, omega (arith, counted, count-rows-le rowLimit (start .args .store .now)), big), start .pre .1 .0)
 
 array-read-put-channel : tie.Need-array-read-put-channel
 array-read-put-channel c = search needs

@@ -6,10 +6,10 @@ use Rattle.calls.specs.Layout.{decode}
 use Rattle.report.specs.Report.{channelLine, channelLines}
 use Rattle.write_text.proofs.Writing.{room-first}
 use Rattle.write_text.proofs.Progress.{Progress, begin, same-rest, room-left, onward, finished, kept}
-use Rattle.reporting.proofs.Rows.{rowsFrom, rows-next, rows-end, lines-are}
+use Rattle.channel_lines.proofs.Rows.{rowsFrom, rows-next, rows-end, lines-are}
 use borrow.Author.Needs.{needs}
-use Rattle.reporting.proofs.put_channels.Statement.{statement}
-use Rattle.reporting.proofs.put_channels.Tie as tie
+use Rattle.channel_lines.proofs.put_channels.Statement.{statement}
+use Rattle.channel_lines.proofs.put_channels.Tie as tie
 
 abbrev Inv-loop : tie.InvT-loop
 Inv-loop out₀ at store rows grid next₀ row₀ out next row =
