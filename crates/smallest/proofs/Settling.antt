@@ -1,13 +1,15 @@
 -- Rounds until one adds nothing: from empty sets they leave the smallest tables.
 use Prim.Native.Nat.{ℕ, _+_, _<_, _≤_}
 use native.Mathlib.Omega.{arith}
-use mathlib.Core.Bool.{Bool, true, false, So, false≢true}
+use mathlib.Core.Bool.{Bool, true, false, So, not, false≢true}
 use mathlib.Core.Path.{_≡_, refl, sym, _∙_, fun-ext}
 use lib.ListN.{length, set, length-set}
 use lib.Seq.{getD-set-same, getD-set-other}
 use native.Mathlib.Decide.{ℕ-discrete as decEq}
-use Rattle.program.specs.Test.{pick}
-use Rattle.program.specs.Flow.{Table, keepsAll}
+use mathlib.Core.Option.{Option, none, some}
+use Rattle.program.specs.Test.{least}
+use Rattle.program.specs.Flow.{Table, keepsAt, keepsAll}
+use Rattle.program.proofs.Test.{all-intro, Least as Smallest, least-is, none-passes, smallest}
 use Rattle.least.specs.Least.{smallestFlow, smallestComm}
 use Rattle.program.proofs.FlowRule.{keeps-iff}
 use Rattle.least.proofs.Least.{smallest-keeps, smallest-lies}
@@ -15,20 +17,16 @@ use Rattle.format.specs.Limits.{rowLimit}
 use Rattle.format.specs.Text.{Bytes, byteAt}
 use Rattle.format.specs.Document.{member}
 use Rattle.calls.specs.Layout.{rowsSize, claimsStart}
-use Rattle.store.specs.Rows.{storeProgram}
+use Rattle.store.specs.Rows.{storeProgram, rowOr}
+use Rattle.store.proofs.Laws.{program-length}
 use Rattle.tables.specs.Tables.{storeFlow, storeComm}
-use Rattle.set_adds.specs.Adding.{positionOf, zeros, Flags, Inside, Rule, Adds}
-use Rattle.sync_adds.specs.Syncs.{Ready}
-use Rattle.smallest.specs.Smallest.{Resets, Cleared, Settles, Least}
+use Rattle.set_adds.specs.Adding.{positionOf, Flags, Inside, Adds}
+use Rattle.smallest.specs.Smallest.{Cleared, Settles, Least}
 use Rattle.set_adds.proofs.Variables.{inside-iff, behind-rows, before-claims}
-use Rattle.set_adds.proofs.Adding.{rows-same}
-use Rattle.sync_adds.proofs.Syncing.{ready-same}
+use Rattle.spreading.specs.Growing.{Resets, Grows}
+use Rattle.spreading.proofs.Growing.{resets-none, resets-then, program-reset}
 
 -- ---- rounds
-
--- what is left of the rounds: the bytes that are 0, and one round more while there was something to add
-unfoldable pub roundsLeft : Bytes → Bool → ℕ
-roundsLeft s more = zeros s + pick more 1 0
 
 pub record Spreads (n : ℕ) (s s′ : Bytes) (more : Bool) : Type 0 where
   pub resets : Resets s s′
@@ -36,39 +34,53 @@ pub record Spreads (n : ℕ) (s s′ : Bytes) (more : Bool) : Type 0 where
   pub inside : (flow comm : Table) → So (keepsAll (storeProgram n s) flow comm) → Inside flow comm s → Inside flow comm s′
   pub keeps : more ≡ false → So (keepsAll (storeProgram n s) (storeFlow s′) (storeComm s′))
 
-pub resets-none : (s : Bytes) → Resets s s
-resets-none s = record { size = refl; rows = λ q l. refl; rest = λ q l. refl }
-
 pub spreads-none : (n : ℕ) (s : Bytes) → Spreads n s s true
 spreads-none n s = record { resets = resets-none s; flags = λ h. h; inside = λ flow comm t h. h; keeps = λ e. absurd (false≢true (sym e)) }
-
-pub program-reset : (n : ℕ) {s s′ : Bytes} → n ≤ rowLimit → Resets s s′ → storeProgram n s′ ≡ storeProgram n s
-program-reset n {s} {s′} few h = rows-same n s s′ few (h .rows)
-
-pub ready-reset : (n : ℕ) {s s′ : Bytes} → Ready n s → Resets s s′ → Ready n s′
-ready-reset n {s} {s′} ready h = ready-same n s s′ ready (h .size) (h .rows)
 
 pub spreads-more : (n : ℕ) {s₀ s₁ s₂ : Bytes} {a b : Bool} → n ≤ rowLimit → Spreads n s₀ s₁ a → Adds (λ flow comm. keepsAll (storeProgram n s₁) flow comm) s₁ s₂ b → Spreads n s₀ s₂ b
 spreads-more n {s₀} {s₁} {s₂} few h k =
     let e = program-reset n few (h .resets) in
     record {
-      resets = record {
-        size = k .size ∙ h .resets .size;
-        rows = λ q l. k .rows q l ∙ h .resets .rows q l;
-        rest = λ q l. k .rest q l ∙ h .resets .rest q l;
-      };
+      resets = resets-then (h .resets) (record { size = k .size; rows = k .rows; rest = k .rest });
       flags = λ f. k .flags (h .flags f);
       inside = λ flow comm t i. k .inside flow comm (rw e t) (h .inside flow comm t i);
       keeps = λ q. rw (← e, k .still q) (k .kept q);
     }
 
-pub rounds-fall : (rule : Rule) (s s′ : Bytes) (more : Bool) → Adds rule s s′ more → roundsLeft s′ more < roundsLeft s true
-unfolding roundsLeft
-rounds-fall rule s s′ true h = omega (arith, h .really refl)
-rounds-fall rule s s′ false h = omega (arith, h .fewer)
-
 pub settles : {n : ℕ} {s s′ : Bytes} {more : Bool} → Spreads n s s′ more → more ≡ false → Settles n s s′
 settles h e = record { resets = h .resets; flags = h .flags; inside = h .inside; keeps = h .keeps e }
+
+-- sets that keep the rules settle as they are
+pub settled : (n : ℕ) {s : Bytes} → So (keepsAll (storeProgram n s) (storeFlow s) (storeComm s)) → Settles n s s
+settled n {s} keeps = record { resets = resets-none s; flags = λ h. h; inside = λ flow comm t h. h; keeps = keeps }
+
+-- no row fails
+pub no-row-fails : (n m : ℕ) (s : Bytes) → n ≤ rowLimit → m ≡ rowOr (least n (λ r. not (keepsAt (storeProgram n s) (storeFlow s) (storeComm s) r))) → rowLimit ≤ m
+    → So (keepsAll (storeProgram n s) (storeFlow s) (storeComm s))
+unfolding rowOr keepsAll
+no-row-fails n m s few e l = rw (program-length n s) (all-intro n keeps (go (least n (λ r. not (keeps r))) (least-is n (λ r. not (keeps r))) e))
+  where
+    keeps : ℕ → Bool
+    keeps r = keepsAt (storeProgram n s) (storeFlow s) (storeComm s) r
+
+    so : (b : Bool) → not b ≡ false → So b
+    so true q = refl
+    so false q = absurd (false≢true (sym q))
+
+    go : (o : Option ℕ) → Smallest n (λ r. not (keeps r)) o → m ≡ rowOr o → (i : ℕ) → i < n → So (keeps i)
+    go none (none-passes h) q i k = so (keeps i) (h i k)
+    go (some r) (smallest j t h) q i k = absurd (omega arith)
+
+-- growth, and then rounds
+pub settles-grown : (n : ℕ) {s₀ s₁ s₂ : Bytes} {b : Bool} → n ≤ rowLimit → Grows n s₀ s₁ b → Settles n s₁ s₂ → Settles n s₀ s₂
+settles-grown n few g h =
+    let e = program-reset n few (g .resets) in
+    record {
+      resets = resets-then (g .resets) (h .resets);
+      flags = λ f. h .flags (g .flags f);
+      inside = λ flow comm t i. h .inside flow comm (rw e t) (g .inside flow comm t i);
+      keeps = rw (← e) (h .keeps);
+    }
 
 -- ---- empty sets
 
@@ -121,11 +133,7 @@ module _ (n : ℕ) (s₀ s₁ s₂ : Bytes) (few : n ≤ rowLimit) (c : Cleared 
       let keeps : So (keepsAll p (storeFlow s₂) (storeComm s₂)) = rw same at (h .keeps) in
       let (i, j) = smallest-lies p (storeFlow s₂) (storeComm s₂) (keeps-iff p (storeFlow s₂) (storeComm s₂) .0 keeps) in
       record {
-        resets = record {
-          size = h .resets .size ∙ c .resets .size;
-          rows = λ q l. h .resets .rows q l ∙ c .resets .rows q l;
-          rest = λ q l. h .resets .rest q l ∙ c .resets .rest q l;
-        };
+        resets = resets-then (c .resets) (h .resets);
         flags = h .flags (λ q l m. rw (c .none q l m) (omega arith));
         flows = fun-ext λ m. fun-ext λ a. both-ways _ _ (f m a) (i m a);
         comms = fun-ext λ m. fun-ext λ a. both-ways _ _ (g m a) (j m a);

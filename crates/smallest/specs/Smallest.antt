@@ -2,7 +2,6 @@
 use Prim.Native.Nat.{ℕ, _<_, _≤_}
 use mathlib.Core.Bool.{So}
 use mathlib.Core.Path.{_≡_}
-use lib.ListN.{length}
 use Rattle.program.specs.Flow.{Table, keepsAll}
 use Rattle.least.specs.Least.{smallestFlow, smallestComm}
 use Rattle.format.specs.Text.{Bytes, byteAt}
@@ -10,14 +9,9 @@ use Rattle.calls.specs.Layout.{rowsSize, claimsStart}
 use Rattle.store.specs.Rows.{storeProgram}
 use Rattle.tables.specs.Tables.{storeFlow, storeComm}
 use Rattle.set_adds.specs.Adding.{Flags, Inside}
+use Rattle.spreading.specs.Growing.{Resets}
 
--- s′ is the store s with its rows, its claims and what is behind them, and with other sets
-pub record Resets (s s′ : Bytes) : Type 0 where
-  pub size : length s′ ≡ length s
-  pub rows : (q : ℕ) → q < rowsSize → byteAt s′ q ≡ byteAt s q
-  pub rest : (q : ℕ) → claimsStart ≤ q → byteAt s′ q ≡ byteAt s q
-
--- with no sets
+-- s′ is the store s with no sets
 pub record Cleared (s s′ : Bytes) : Type 0 where
   pub resets : Resets s s′
   pub none : (q : ℕ) → rowsSize ≤ q → q < claimsStart → byteAt s′ q ≡ 0

@@ -1,90 +1,19 @@
-// The smallest tables of the program in a store: what the flow rules ask is added to empty sets, row by row, until a round over the rows adds nothing.
-use forms::row_in;
-use program::Form;
-use program::Row;
-use rule_adds::Ask;
-use rule_adds::each_adds;
+// The smallest tables of the program in a store: what the flow rules ask is added to empty sets until they hold.
+use flow::failing_row;
+use row_adds::row_adds;
 use set_adds::either;
-use set_adds::put_member;
+use spreading::spread;
+use store::NO_ROW;
 use store::Store;
-ghost use Prim.Native.Nat.{_<_, _≤_};
+ghost use Prim.Native.Nat.{_≤_};
 ghost use lib.ListN.{length};
-ghost use Rattle.program.specs.Flow.{keepsForm, keepsAt, keepsAll};
-ghost use Rattle.program.specs.Each.{Each};
-ghost use Rattle.format.specs.Limits.{rowLimit};
-ghost use Rattle.format.specs.Print.{formNumbers};
+ghost use Rattle.program.specs.Flow.{keepsAll};
 ghost use Rattle.calls.specs.Layout.{storeSize};
 ghost use Rattle.store.specs.Rows.{storeProgram};
 ghost use Rattle.asks.specs.Asks.{Names};
 ghost use Rattle.set_adds.specs.Adding.{Adds};
 ghost use Rattle.sync_adds.specs.Syncs.{Ready};
 ghost use Rattle.smallest.specs.Smallest.{Settles, Cleared, Least};
-
-// Adds what the rule of a form at row r asks, where its bind has the name n. The last arm is that of the value rows other than fun.
-fn form_adds(store: &mut [u8], rows: u8, r: u8, n: u8, form: Form, names: &[u8]) -> bool
-    requires { ⌜ Ready rows (now store) ⌝ }
-    requires { ⌜ Names (storeProgram rows (now store)) (now names) ⌝ }
-    requires { ⌜ (r < rowLimit) × (n < rowLimit) × Each (λ a. a < rowLimit) (formNumbers form) ⌝ }
-    ensures { λ more. ⌜ Adds (λ flow comm. keepsForm (storeProgram rows (now (store .entry))) flow comm r n form) (now (store .entry)) (now (store .exit)) more ⌝ }
-{
-    let member = r as usize + 1;
-    match form {
-        Form::Unit => put_member(store, n, 0),
-        Form::Fun {
-            own,
-            parameter: _,
-            body: _,
-        } => {
-            let value = put_member(store, n, member);
-            let inner = put_member(store, own, member);
-            either(value, inner)
-        }
-        Form::Spawn { child: _ } => put_member(store, n, 0),
-        Form::Sync { event } => each_adds(store, rows, n, Ask::Sync, names, event),
-        Form::First { pair } => each_adds(store, rows, n, Ask::First, names, pair),
-        Form::Second { pair } => each_adds(store, rows, n, Ask::Second, names, pair),
-        Form::Case {
-            subject,
-            left_name,
-            left,
-            right_name,
-            right,
-        } => {
-            let left_result = read_text::byte_at(names, left as usize);
-            let right_result = read_text::byte_at(names, right as usize);
-            let ask = Ask::Case {
-                left_name,
-                left_result,
-                right_name,
-                right_result,
-            };
-            each_adds(store, rows, n, ask, names, subject)
-        }
-        Form::Apply { function, argument } => each_adds(
-            store,
-            rows,
-            n,
-            Ask::Apply(argument),
-            names,
-            function,
-        ),
-        _ => put_member(store, n, member),
-    }
-}
-
-// Adds what the rule of row r asks; a result has none.
-fn row_adds(store: &mut [u8], rows: u8, r: u8, names: &[u8]) -> bool
-    requires { ⌜ Ready rows (now store) ⌝ }
-    requires { ⌜ Names (storeProgram rows (now store)) (now names) ⌝ }
-    requires { ⌜ r < rowLimit ⌝ }
-    ensures { λ more. ⌜ Adds (λ flow comm. keepsAt (storeProgram rows (now (store .entry))) flow comm r) (now (store .entry)) (now (store .exit)) more ⌝ }
-{
-    let Row::Bind(b) = row_in(store, rows, r) else {
-        return false;
-    };
-    let form = b.form;
-    form_adds(store, rows, r, b.name, form, names)
-}
 
 // Adds what the rules ask, one row after the other.
 fn round(store: &mut [u8], rows: u8, names: &[u8]) -> bool
@@ -126,12 +55,24 @@ fn clear_sets(store: &mut [u8])
     }
 }
 
-// Puts the smallest tables of a store's program in the place of its sets.
+// Rounds over the rows until the rules hold, if they do not.
+fn settle_rest(store: &mut [u8], rows: u8, names: &[u8])
+    requires { ⌜ Ready rows (now store) ⌝ }
+    requires { ⌜ Names (storeProgram rows (now store)) (now names) ⌝ }
+    ensures { λ _. ⌜ Settles rows (now (store .entry)) (now (store .exit)) ⌝ }
+{
+    if failing_row(store, rows) < NO_ROW {
+        settle(store, rows, names);
+    }
+}
+
+// Puts the smallest tables of a store's program in the place of its sets. What is spread is only what the rules ask, but need not be all of it.
 pub fn smallest_sets(store: &mut [u8], rows: u8)
     requires { ⌜ Ready rows (now store) ⌝ }
     ensures { λ _. ⌜ Least rows (now (store .entry)) (now (store .exit)) ⌝ }
 {
     let names = asks::result_names(store, rows);
     clear_sets(store);
-    settle(store, rows, &names);
+    spread(store, rows, &names);
+    settle_rest(store, rows, &names);
 }

@@ -1,7 +1,8 @@
 -- The loop's invariant: what is added lies in all tables that keep the rules. The measure: a round that adds something leaves fewer bytes that are 0, and one that adds nothing is the last.
 use mathlib.Core.Path.{_≡_, refl, _∙_}
 use lib.ListN.{length}
-use Rattle.smallest.proofs.Settling.{roundsLeft, Spreads, spreads-none, program-reset, ready-reset, spreads-more, rounds-fall, settles}
+use Rattle.spreading.proofs.Growing.{roundsLeft, program-reset, ready-reset, grows-by, rounds-fall}
+use Rattle.smallest.proofs.Settling.{Spreads, spreads-none, spreads-more, settles}
 use Rattle.smallest.proofs.settle.Statement.{statement}
 use Rattle.smallest.proofs.settle.Tie as tie
 
@@ -19,7 +20,7 @@ round-requires : tie.Need-round-requires Inv-loop μ-loop
 round-requires c κs = (ready-reset _ (c .before .before .before .before .before .pre .0) (c .before .before .loop .inv .1 .resets), rw (program-reset _ (c .before .before .before .before .before .pre .0 .few) (c .before .before .loop .inv .1 .resets)) (c .before .before .before .before .before .pre .1))
 
 loop-less : tie.Need-loop-less Inv-loop μ-loop
-loop-less c = rw (c .before .before .before .before .loop-test .taken) (rounds-fall _ _ _ _ (c .before .before .round .ensures))
+loop-less c = rw (c .before .before .before .before .loop-test .taken) (rounds-fall _ (grows-by _ _ (λ flow comm t. t) (c .before .before .round .ensures)))
 
 loop-again : tie.Need-loop-again Inv-loop μ-loop
 loop-again c = (c .before .before .round .ensures .size ∙ c .before .before .before .before .before .loop .inv .0, spreads-more _ (c .before .before .before .before .before .before .before .before .pre .0 .few) (c .before .before .before .before .before .loop .inv .1) (c .before .before .round .ensures))

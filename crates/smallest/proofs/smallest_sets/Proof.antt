@@ -1,6 +1,7 @@
--- `smallest_sets` meets its contract: from empty sets the rounds leave the smallest tables.
+-- `smallest_sets` meets its contract: from empty sets, what is spread and the rounds after it leave the smallest tables.
 use borrow.Author.Needs.{needs}
-use Rattle.smallest.proofs.Settling.{program-reset, ready-reset, least-left}
+use Rattle.spreading.proofs.Growing.{program-reset, ready-reset, still-ready}
+use Rattle.smallest.proofs.Settling.{settles-grown, least-left}
 use Rattle.smallest.proofs.smallest_sets.Statement.{statement}
 use Rattle.smallest.proofs.smallest_sets.Tie as tie
 
@@ -10,17 +11,23 @@ result-names-requires c κs = search needs
 clear-sets-requires : tie.Need-clear-sets-requires
 clear-sets-requires c κs = search needs
 
-slice-aggregate-settle : tie.Need-slice-aggregate-settle
-slice-aggregate-settle c = search needs
+slice-aggregate-spread : tie.Need-slice-aggregate-spread
+slice-aggregate-spread c = search needs
 
-settle-requires : tie.Need-settle-requires
-settle-requires c κs = (ready-reset _ (c .before .before .before .before .before .before .before .before .before .pre) (c .before .before .before .before .clear-sets .ensures .resets), rw (program-reset _ (c .before .before .before .before .before .before .before .before .before .pre .few) (c .before .before .before .before .clear-sets .ensures .resets)) (c .before .before .before .before .before .before .result-names .ensures))
+spread-requires : tie.Need-spread-requires
+spread-requires c κs = (ready-reset _ (c .before .before .before .before .before .before .before .before .before .pre) (c .before .before .before .before .clear-sets .ensures .resets), rw (program-reset _ (c .before .before .before .before .before .before .before .before .before .pre .few) (c .before .before .before .before .clear-sets .ensures .resets)) (c .before .before .before .before .before .before .result-names .ensures))
+
+slice-aggregate-settle-rest : tie.Need-slice-aggregate-settle-rest
+slice-aggregate-settle-rest c = search needs
+
+settle-rest-requires : tie.Need-settle-rest-requires
+settle-rest-requires c κs = still-ready _ _ (ready-reset _ (c .before .before .before .before .before .before .before .before .before .before .before .before .before .before .pre) (c .before .before .before .before .before .before .before .before .before .clear-sets .ensures .resets)) (rw (program-reset _ (c .before .before .before .before .before .before .before .before .before .before .before .before .before .before .pre .few) (c .before .before .before .before .before .before .before .before .before .clear-sets .ensures .resets)) (c .before .before .before .before .before .before .before .before .before .before .before .result-names .ensures)) (c .before .before .before .before .spread .ensures)
 
 same-length : tie.Need-same-length
 same-length c = search needs
 
 returns : tie.Need-returns
-returns c = least-left _ _ _ _ (c .before .before .before .before .before .before .before .before .before .before .before .before .pre .few) (c .before .before .before .before .before .before .before .clear-sets .ensures) (c .before .before .settle .ensures)
+returns c = least-left _ _ _ _ (c .before .before .before .before .before .before .before .before .before .before .before .before .before .before .before .before .before .pre .few) (c .before .before .before .before .before .before .before .before .before .before .before .before .clear-sets .ensures) (settles-grown _ (c .before .before .before .before .before .before .before .before .before .before .before .before .before .before .before .before .before .pre .few) (c .before .before .before .before .before .before .before .spread .ensures) (c .before .before .settle-rest .ensures))
 
 pub smallest-sets-spec : {M : Type 1} → statement M
 smallest-sets-spec =
@@ -28,7 +35,9 @@ smallest-sets-spec =
     (tie.spec
     result-names-requires
     clear-sets-requires
-    slice-aggregate-settle
-    settle-requires
+    slice-aggregate-spread
+    spread-requires
+    slice-aggregate-settle-rest
+    settle-rest-requires
     same-length
     returns)

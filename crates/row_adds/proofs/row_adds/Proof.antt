@@ -1,8 +1,8 @@
 -- `row_adds` meets its contract: a result has no rule, a bind that of its form.
 use borrow.Author.Needs.{needs}
-use Rattle.smallest.proofs.Rows.{bind-low, result-keeps, bind-keeps}
-use Rattle.smallest.proofs.row_adds.Statement.{statement}
-use Rattle.smallest.proofs.row_adds.Tie as tie
+use Rattle.row_adds.proofs.Rows.{bind-low, result-keeps, bind-keeps}
+use Rattle.row_adds.proofs.row_adds.Statement.{statement}
+use Rattle.row_adds.proofs.row_adds.Tie as tie
 
 row-in-requires : tie.Need-row-in-requires
 row-in-requires c κs = search needs

@@ -11,9 +11,9 @@ use Rattle.rule_adds.specs.Rules.{askRule, AskLow}
 use Rattle.set_adds.proofs.Adding.{adds-then}
 use Rattle.set_adds.proofs.Adding.{adds-as}
 use Rattle.rule_adds.proofs.Asking.{result-low}
-use Rattle.smallest.proofs.Rows.{own-low, branches-low, argument-low, row-put}
-use Rattle.smallest.proofs.form_adds.Statement.{statement}
-use Rattle.smallest.proofs.form_adds.Tie as tie
+use Rattle.row_adds.proofs.Rows.{own-low, branches-low, argument-low, row-put}
+use Rattle.row_adds.proofs.form_adds.Statement.{statement}
+use Rattle.row_adds.proofs.form_adds.Tie as tie
 
 add-member : tie.Need-add-member
 add-member c = search needs

@@ -1,0 +1,2 @@
+-- Laws of the rule of a row.
+pub mod Rows

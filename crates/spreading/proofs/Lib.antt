@@ -1,0 +1,2 @@
+-- Laws of sets that grow.
+pub mod Growing

@@ -1,0 +1,2 @@
+-- Sets that grow by what the rules ask.
+pub mod Growing

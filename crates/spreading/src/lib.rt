@@ -1,0 +1,54 @@
+// Sets filled by the rules, fast: each change is one that a rule asks, so that any order of the rows will do, and any row may be passed over.
+use row_adds::row_adds;
+use set_adds::either;
+ghost use mathlib.Core.Bool.{false};
+ghost use Rattle.store.specs.Rows.{storeProgram};
+ghost use Rattle.asks.specs.Asks.{Names};
+ghost use Rattle.sync_adds.specs.Syncs.{Ready};
+ghost use Rattle.spreading.specs.Growing.{Grows};
+
+// Adds what the rules ask, from the first row to the last.
+fn sweep_down(store: &mut [u8], rows: u8, names: &[u8]) -> bool
+    requires { ⌜ Ready rows (now store) ⌝ }
+    requires { ⌜ Names (storeProgram rows (now store)) (now names) ⌝ }
+    ensures { λ more. ⌜ Grows rows (now (store .entry)) (now (store .exit)) more ⌝ }
+{
+    let mut more = false;
+    let mut r = 0;
+    while r < rows {
+        let new = row_adds(store, rows, r, names);
+        more = either(more, new);
+        r += 1;
+    }
+    more
+}
+
+// Adds what the rules ask, from the last row to the first.
+fn sweep_up(store: &mut [u8], rows: u8, names: &[u8]) -> bool
+    requires { ⌜ Ready rows (now store) ⌝ }
+    requires { ⌜ Names (storeProgram rows (now store)) (now names) ⌝ }
+    ensures { λ more. ⌜ Grows rows (now (store .entry)) (now (store .exit)) more ⌝ }
+{
+    let mut more = false;
+    let mut left = rows;
+    while 0 < left {
+        left -= 1;
+        let new = row_adds(store, rows, left, names);
+        more = either(more, new);
+    }
+    more
+}
+
+// Down the rows and up again, until neither adds anything.
+pub fn spread(store: &mut [u8], rows: u8, names: &[u8])
+    requires { ⌜ Ready rows (now store) ⌝ }
+    requires { ⌜ Names (storeProgram rows (now store)) (now names) ⌝ }
+    ensures { λ _. ⌜ Grows rows (now (store .entry)) (now (store .exit)) false ⌝ }
+{
+    let mut more = true;
+    while more {
+        let down = sweep_down(store, rows, names);
+        let up = sweep_up(store, rows, names);
+        more = either(down, up);
+    }
+}
