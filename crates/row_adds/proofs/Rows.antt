@@ -41,7 +41,8 @@ module _ {f : Form} (low : Each (λ n. n < rowLimit) (formNumbers f)) where
   unfolding formNumbers
   argument-low q = second-low (rw q at low)
 
-pub bind-low : {rows : ℕ} {s : Bytes} → Ready rows s → (r : ℕ) {x : Row} {b : Bind} → x ≡ rowAt (storeProgram rows s) r → x ≡ Row.Bind b → (b .name < rowLimit) × Each (λ n. n < rowLimit) (formNumbers (b .form))
+pub bind-low : {rows : ℕ} {s : Bytes} → Ready rows s → (r : ℕ) {x : Row} {b : Bind} → x ≡ rowAt (storeProgram rows s) r → x ≡ Row.Bind b → (b .name < rowLimit)
+    × Each (λ n. n < rowLimit) (formNumbers (b .form))
 unfolding nameOf formIn
 bind-low ready r e q = (rw (sym e ∙ q) at (ready .names r), rw (sym e ∙ q) at (ready .numbers r))
 

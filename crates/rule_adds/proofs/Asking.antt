@@ -79,6 +79,7 @@ module _ (p : Program) (n k : ℕ) {f : Form} (e : f ≡ formIn (rowAt p k)) {s 
   unfolding askRule when
   case-right x l y r q h = adds-as _ _ (λ flow comm. rw (left-at p k e, right-at p k e, q)) h
 
-  pub apply-fun : {g x t : ℕ} (a : ℕ) → f ≡ Fun g x t → Adds (λ flow comm. lies p (flow a) (flow x) && lies p (flow (resultName p t)) (flow n)) s s′ more → Adds (askRule p n (Ask.Apply a) k) s s′ more
+  pub apply-fun : {g x t : ℕ} (a : ℕ) → f ≡ Fun g x t → Adds (λ flow comm. lies p (flow a) (flow x) && lies p (flow (resultName p t)) (flow n)) s s′ more
+      → Adds (askRule p n (Ask.Apply a) k) s s′ more
   unfolding askRule when
   apply-fun a q h = adds-as _ _ (λ flow comm. rw (fun-at p k e, q)) h

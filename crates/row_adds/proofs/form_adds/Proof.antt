@@ -31,7 +31,14 @@ put-member-requires-2 : tie.Need-put-member-requires-2
 put-member-requires-2 c κs = search needs
 
 put-member-requires-3 : tie.Need-put-member-requires-3
-put-member-requires-3 c κs = (omega (arith, c .before .before .before .put-member2 .ensures .size, c .before .before .before .before .before .before .before .before .before .before .pre .0 .size), own-low (c .before .before .before .before .before .before .before .before .before .before .pre .1 .1 .2) (c .before .before .before .before .before .before .form .given .1), omega arith)
+put-member-requires-3 c κs =
+    let b = c .before .before .before .before in
+    let d = b .before .before .before .before in (
+      omega (arith, c .before .before .before .put-member2 .ensures .size, d .before .before .pre .0 .size),
+      own-low (d .before .before .pre .1 .1 .2) (b .before .before .form .given .1),
+      omega
+          arith,
+    )
 
 either-requires : tie.Need-either-requires
 either-requires c κs = search needs
@@ -47,21 +54,24 @@ enum-known-form-2 c = search needs
 
 each-adds-requires : tie.Need-each-adds-requires
 unfolding AskLow
-each-adds-requires c κs = (c .before .before .before .before .before .before .pre .0, (c .before .before .before .before .before .before .pre .1 .0, (c .before .before .before .before .before .before .pre .1 .1 .1, tt)))
+each-adds-requires c κs =
+    (c .before .before .before .before .before .before .pre .0, (c .before .before .before .before .before .before .pre .1 .0, (c .before .before .before .before .before .before .pre .1 .1 .1, tt)))
 
 enum-known-form-3 : tie.Need-enum-known-form-3
 enum-known-form-3 c = search needs
 
 each-adds-requires-2 : tie.Need-each-adds-requires-2
 unfolding AskLow
-each-adds-requires-2 c κs = (c .before .before .before .before .before .before .pre .0, (c .before .before .before .before .before .before .pre .1 .0, (c .before .before .before .before .before .before .pre .1 .1 .1, tt)))
+each-adds-requires-2 c κs =
+    (c .before .before .before .before .before .before .pre .0, (c .before .before .before .before .before .before .pre .1 .0, (c .before .before .before .before .before .before .pre .1 .1 .1, tt)))
 
 enum-known-form-4 : tie.Need-enum-known-form-4
 enum-known-form-4 c = search needs
 
 each-adds-requires-3 : tie.Need-each-adds-requires-3
 unfolding AskLow
-each-adds-requires-3 c κs = (c .before .before .before .before .before .before .pre .0, (c .before .before .before .before .before .before .pre .1 .0, (c .before .before .before .before .before .before .pre .1 .1 .1, tt)))
+each-adds-requires-3 c κs =
+    (c .before .before .before .before .before .before .pre .0, (c .before .before .before .before .before .before .pre .1 .0, (c .before .before .before .before .before .before .pre .1 .1 .1, tt)))
 
 enum-known-form-5 : tie.Need-enum-known-form-5
 enum-known-form-5 c = search needs
@@ -80,14 +90,37 @@ byte-at-requires-2 c κs = search needs
 
 each-adds-requires-4 : tie.Need-each-adds-requires-4
 unfolding AskLow
-each-adds-requires-4 c κs = (c .before .before .before .before .before .before .before .before .pre .0, (c .before .before .before .before .before .before .before .before .pre .1 .0, (c .before .before .before .before .before .before .before .before .pre .1 .1 .1, (branches-low (c .before .before .before .before .before .before .before .before .pre .1 .1 .2) (c .before .before .before .before .form5 .given .1) .0, rw (c .before .before .byte-at .ensures) (result-low (c .before .before .before .before .before .before .before .before .pre .0) _ (c .before .before .before .before .before .before .before .before .pre .1 .0) _), branches-low (c .before .before .before .before .before .before .before .before .pre .1 .1 .2) (c .before .before .before .before .form5 .given .1) .1, rw (c .before .byte-at2 .ensures) (result-low (c .before .before .before .before .before .before .before .before .pre .0) _ (c .before .before .before .before .before .before .before .before .pre .1 .0) _)))))
+each-adds-requires-4 c κs = (
+  c .before .before .before .before .before .before .before .before .pre .0,
+  (
+    c .before .before .before .before .before .before .before .before .pre .1 .0,
+    (
+      c .before .before .before .before .before .before .before .before .pre .1 .1 .1,
+      (
+        branches-low (c .before .before .before .before .before .before .before .before .pre .1 .1 .2) (c .before .before .before .before .form5 .given .1) .0,
+        rw (c .before .before .byte-at .ensures)
+            (result-low (c .before .before .before .before .before .before .before .before .pre .0) _ (c .before .before .before .before .before .before .before .before .pre .1 .0) _),
+        branches-low
+            (c .before .before .before .before .before .before .before .before .pre .1 .1 .2) (c .before .before .before .before .form5 .given .1) .1,
+        rw (c .before .byte-at2 .ensures)
+            (result-low (c .before .before .before .before .before .before .before .before .pre .0) _ (c .before .before .before .before .before .before .before .before .pre .1 .0) _),
+      ),
+    ),
+  ),
+)
 
 enum-known-form-6 : tie.Need-enum-known-form-6
 enum-known-form-6 c = search needs
 
 each-adds-requires-5 : tie.Need-each-adds-requires-5
 unfolding AskLow
-each-adds-requires-5 c κs = (c .before .before .before .before .before .before .pre .0, (c .before .before .before .before .before .before .pre .1 .0, (c .before .before .before .before .before .before .pre .1 .1 .1, argument-low (c .before .before .before .before .before .before .pre .1 .1 .2) (c .before .before .form6 .given .1))))
+each-adds-requires-5 c κs = (
+  c .before .before .before .before .before .before .pre .0,
+  (
+    c .before .before .before .before .before .before .pre .1 .0,
+    (c .before .before .before .before .before .before .pre .1 .1 .1, argument-low (c .before .before .before .before .before .before .pre .1 .1 .2) (c .before .before .form6 .given .1)),
+  ),
+)
 
 put-member-requires-5 : tie.Need-put-member-requires-5
 put-member-requires-5 c κs = search needs
@@ -104,7 +137,11 @@ same-length-2 c = search needs
 
 returns-2 : tie.Need-returns-2
 unfolding keepsForm
-returns-2 c = rw (c .before .before .before .before .before .before .before .before .before .before .form .given .1, c .either .ensures) (adds-then (row-put _ _ (c .before .before .before .before .before .before .before .put-member2 .ensures)) (row-put _ _ (c .before .before .before .put-member3 .ensures)))
+returns-2 c =
+    let b = c .before .before .before .before in
+    let d = b .before .before .before .before in
+    rw (d .before .before .form .given .1, c .either .ensures)
+    (adds-then (row-put _ _ (b .before .before .before .put-member2 .ensures)) (row-put _ _ (c .before .before .before .put-member3 .ensures)))
 
 same-length-3 : tie.Need-same-length-3
 same-length-3 c = search needs
@@ -139,7 +176,11 @@ same-length-7 c = search needs
 
 returns-7 : tie.Need-returns-7
 unfolding keepsForm askRule Names
-returns-7 c = rw (c .before .before .before .before .before .before .before .form5 .given .1) (rw (c .before .before .before .before .before .byte-at .ensures ∙ c .before .before .before .before .before .before .before .before .before .before .before .pre .1 .0 _, c .before .before .before .before .byte-at2 .ensures ∙ c .before .before .before .before .before .before .before .before .before .before .before .pre .1 .0 _) at (c .before .before .each-adds4 .ensures))
+returns-7 c =
+    let b = c .before .before .before .before in
+    let d = b .before .before .before .before in
+    rw (b .before .before .before .form5 .given .1)
+    (rw (b .before .byte-at .ensures ∙ d .before .before .before .pre .1 .0 _, b .byte-at2 .ensures ∙ d .before .before .before .pre .1 .0 _) at (c .before .before .each-adds4 .ensures))
 
 same-length-8 : tie.Need-same-length-8
 same-length-8 c = search needs
@@ -152,7 +193,9 @@ same-length-9 : tie.Need-same-length-9
 same-length-9 c = search needs
 
 returns-9 : tie.Need-returns-9
-returns-9 c = adds-as _ _ (λ flow comm. sym (value-keeps _ flow comm _ _ (c .before .before .before .before .before .before .before .args .form) (c .before .before .before .before .match .keys9))) (row-put _ _ (c .before .before .put-member5 .ensures))
+returns-9 c =
+    adds-as _ _ (λ flow comm. sym (value-keeps _ flow comm _ _ (c .before .before .before .before .before .before .before .args .form) (c .before .before .before .before .match .keys9)))
+    (row-put _ _ (c .before .before .put-member5 .ensures))
 
 pub form-adds-spec : {M : Type 1} → statement M
 form-adds-spec =

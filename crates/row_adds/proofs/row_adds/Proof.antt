@@ -20,13 +20,26 @@ returns : tie.Need-returns
 returns c = result-keeps _ _ _ (c .before .before .row-in .ensures) (c .enum-told .given .1)
 
 form-adds-requires : tie.Need-form-adds-requires
-form-adds-requires c κs = (c .before .before .before .before .before .before .before .before .pre .0, (c .before .before .before .before .before .before .before .before .pre .1 .0, (c .before .before .before .before .before .before .before .before .pre .1 .1, bind-low (c .before .before .before .before .before .before .before .before .pre .0) _ (c .before .before .before .before .row-in .ensures) (c .before .before .b .given .1) .0, bind-low (c .before .before .before .before .before .before .before .before .pre .0) _ (c .before .before .before .before .row-in .ensures) (c .before .before .b .given .1) .1)))
+form-adds-requires c κs = (
+  c .before .before .before .before .before .before .before .before .pre .0,
+  (
+    c .before .before .before .before .before .before .before .before .pre .1 .0,
+    (
+      c .before .before .before .before .before .before .before .before .pre .1 .1,
+      bind-low (c .before .before .before .before .before .before .before .before .pre .0) _
+          (c .before .before .before .before .row-in .ensures) (c .before .before .b .given .1) .0,
+      bind-low (c .before .before .before .before .before .before .before .before .pre .0) _
+          (c .before .before .before .before .row-in .ensures) (c .before .before .b .given .1) .1,
+    ),
+  ),
+)
 
 same-length-2 : tie.Need-same-length-2
 same-length-2 c = search needs
 
 returns-2 : tie.Need-returns-2
-returns-2 c = bind-keeps _ _ (c .before .before .before .before .before .before .before .row-in .ensures) (c .before .before .before .before .before .b .given .1) (c .before .before .form-adds .ensures)
+returns-2 c =
+    bind-keeps _ _ (c .before .before .before .before .before .before .before .row-in .ensures) (c .before .before .before .before .before .b .given .1) (c .before .before .form-adds .ensures)
 
 pub row-adds-spec : {M : Type 1} → statement M
 row-adds-spec =

@@ -30,14 +30,28 @@ byte-at-requires : tie.Need-byte-at-requires
 byte-at-requires c κs = search needs
 
 both-add-requires : tie.Need-both-add-requires
-both-add-requires c κs = (c .before .before .before .before .before .before .before .before .before .pre .0 .size, c .before .before .before .before .before .before .before .before .before .pre .0 .few, c .before .before .before .before .before .before .before .before .before .pre .1 .1 .1, fun-low (c .before .before .before .before .before .before .before .before .before .pre .0) _ (c .before .before .before .before .before .form-at .ensures) (c .before .before .before .parameter .given .1), rw (c .before .byte-at .ensures) (result-low (c .before .before .before .before .before .before .before .before .before .pre .0) _ (c .before .before .before .before .before .before .before .before .before .pre .1 .0) _), c .before .before .before .before .before .before .before .before .before .pre .1 .1 .0)
+both-add-requires c κs =
+    let b = c .before .before .before .before in
+    let d = b .before .before .before .before in (
+      d .before .pre .0 .size,
+      d .before .pre .0 .few,
+      d .before .pre .1 .1 .1,
+      fun-low (d .before .pre .0) _ (b .before .form-at .ensures) (c .before .before .before .parameter .given .1),
+      rw
+          (c .before .byte-at .ensures) (result-low (d .before .pre .0) _ (d .before .pre .1 .0) _),
+      d .before .pre .1 .1 .0,
+    )
 
 same-length-2 : tie.Need-same-length-2
 same-length-2 c = search needs
 
 returns-2 : tie.Need-returns-2
 unfolding Names
-returns-2 c = apply-fun _ _ _ (c .before .before .before .before .before .before .before .before .form-at .ensures) _ (c .before .before .before .before .before .before .parameter .given .1) (rw (c .before .before .before .before .byte-at .ensures ∙ c .before .before .before .before .before .before .before .before .before .before .before .before .pre .1 .0 _) at (c .before .before .both-add .ensures))
+returns-2 c =
+    let b = c .before .before .before .before in
+    let d = b .before .before .before .before in
+    apply-fun _ _ _ (d .form-at .ensures) _ (b .before .before .parameter .given .1)
+    (rw (b .byte-at .ensures ∙ d .before .before .before .before .pre .1 .0 _) at (c .before .before .both-add .ensures))
 
 pub apply-adds-spec : {M : Type 1} → statement M
 apply-adds-spec =

@@ -26,14 +26,23 @@ enum-known-ask : tie.Need-enum-known-ask
 enum-known-ask c = search needs
 
 case-adds-requires : tie.Need-case-adds-requires
-case-adds-requires c κs = (c .before .before .before .before .before .before .pre .0, (c .before .before .before .before .before .before .pre .1 .1 .0, rw (c .before .before .ask .given .1) at (c .before .before .before .before .before .before .pre .1 .1 .1)))
+case-adds-requires c κs = (
+  c .before .before .before .before .before .before .pre .0,
+  (c .before .before .before .before .before .before .pre .1 .1 .0, rw (c .before .before .ask .given .1) at (c .before .before .before .before .before .before .pre .1 .1 .1)),
+)
 
 enum-known-ask-2 : tie.Need-enum-known-ask-2
 enum-known-ask-2 c = search needs
 
 apply-adds-requires : tie.Need-apply-adds-requires
 unfolding AskLow
-apply-adds-requires c κs = (c .before .before .before .before .before .before .pre .0, (c .before .before .before .before .before .before .pre .1 .0, (c .before .before .before .before .before .before .pre .1 .1 .0, rw (c .before .before .ask2 .given .1) at (c .before .before .before .before .before .before .pre .1 .1 .1))))
+apply-adds-requires c κs = (
+  c .before .before .before .before .before .before .pre .0,
+  (
+    c .before .before .before .before .before .before .pre .1 .0,
+    (c .before .before .before .before .before .before .pre .1 .1 .0, rw (c .before .before .ask2 .given .1) at (c .before .before .before .before .before .before .pre .1 .1 .1)),
+  ),
+)
 
 same-length : tie.Need-same-length
 same-length c = search needs

@@ -13,7 +13,10 @@ add-set-requires c κs = ((c .before .before .pre .0, c .before .before .pre .1)
 
 add-set-requires-2 : tie.Need-add-set-requires-2
 unfolding numberOf
-add-set-requires-2 c κs = ((omega (arith, c .before .before .before .add-set .ensures .size), c .before .before .before .before .before .before .pre .1), (c .before .before .before .before .before .before .pre .4, c .before .before .before .before .before .before .pre .5))
+add-set-requires-2 c κs = (
+  (omega (arith, c .before .before .before .add-set .ensures .size), c .before .before .before .before .before .before .pre .1),
+  (c .before .before .before .before .before .before .pre .4, c .before .before .before .before .before .before .pre .5),
+)
 
 either-requires : tie.Need-either-requires
 either-requires c κs = search needs
@@ -23,7 +26,12 @@ same-length c = search needs
 
 returns : tie.Need-returns
 unfolding setAt
-returns c = rw (c .either .ensures) (adds-after _ (λ p flow comm. lies p (flow (c .before .before .before .before .before .before .before .before .before .before .args .b)) (flow (c .before .before .before .before .before .before .before .before .before .before .args .n))) (c .before .before .before .before .before .before .before .before .before .before .pre .1) (c .before .before .before .before .before .before .before .add-set .ensures) (c .before .before .before .add-set2 .ensures))
+returns c =
+    let b = c .before .before .before .before in
+    let d = b .before .before .before .before in
+    rw (c .either .ensures)
+    (adds-after _ (λ p flow comm. lies p (flow (d .before .before .args .b)) (flow (d .before .before .args .n))) (d .before .before .pre .1) (b .before .before .before .add-set .ensures)
+    (c .before .before .before .add-set2 .ensures))
 
 pub both-add-spec : {M : Type 1} → statement M
 both-add-spec =

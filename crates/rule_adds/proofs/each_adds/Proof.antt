@@ -25,7 +25,13 @@ loop-holds : tie.Need-loop-holds Inv-loop μ-loop
 loop-holds c = (omega arith, refl, adds-first _ _)
 
 member-adds-requires : tie.Need-member-adds-requires Inv-loop μ-loop
-member-adds-requires c κs = (ready-stays _ (c .before .before .before .before .before .pre .0) (c .before .before .loop .inv .2), (rw (program-stays _ (c .before .before .before .before .before .pre .0 .few) (c .before .before .loop .inv .2)) (c .before .before .before .before .before .pre .1 .0), c .before .before .before .before .before .pre .1 .1))
+member-adds-requires c κs = (
+  ready-stays _ (c .before .before .before .before .before .pre .0) (c .before .before .loop .inv .2),
+  (
+    rw (program-stays _ (c .before .before .before .before .before .pre .0 .few) (c .before .before .loop .inv .2)) (c .before .before .before .before .before .pre .1 .0),
+    c .before .before .before .before .before .pre .1 .1,
+  ),
+)
 
 either-requires : tie.Need-either-requires Inv-loop μ-loop
 either-requires c κs = search needs
@@ -37,7 +43,15 @@ loop-less : tie.Need-loop-less Inv-loop μ-loop
 loop-less c = search needs
 
 loop-again : tie.Need-loop-again Inv-loop μ-loop
-loop-again c = (omega arith, c .before .before .before .member-adds .ensures .size ∙ c .before .before .before .before .before .before .loop .inv .1, rw (c .either .ensures) (adds-next _ _ (λ p i. memberRule p (c .before .before .before .before .before .before .before .before .before .args .n) (c .before .before .before .before .before .before .before .before .before .args .ask) (c .before .before .before .before .before .before .before .before .before .args .a) i) (c .before .before .before .before .before .before .before .before .before .pre .0 .few) (c .before .before .before .before .before .before .loop .inv .2) (c .before .before .before .member-adds .ensures)))
+loop-again c =
+    let b = c .before .before .before .before in
+    let d = b .before .before .before .before in (
+      omega arith,
+      c .before .before .before .member-adds .ensures .size ∙ b .before .before .loop .inv .1,
+      rw (c .either .ensures)
+          (adds-next _ _ (λ p i. memberRule p (d .before .args .n) (d .before .args .ask) (d .before .args .a) i) (d .before .pre .0 .few) (b .before .before .loop .inv .2)
+          (c .before .before .before .member-adds .ensures)),
+    )
 
 same-length : tie.Need-same-length Inv-loop μ-loop
 same-length c = c .before .loop .inv .1

@@ -24,14 +24,22 @@ returns c = adds-none _ _ (λ flow comm. rw (pair-at _ _ (c .before .form-at .en
 
 add-set-requires : tie.Need-add-set-requires
 unfolding numberOf
-add-set-requires c κs = ((c .before .before .before .before .before .before .before .pre .0 .size, c .before .before .before .before .before .before .before .pre .0 .few), (pair-low (c .before .before .before .before .before .before .before .pre .0) _ (c .before .before .before .before .form-at .ensures) (c .before .before .second .given .1) .1, c .before .before .before .before .before .before .before .pre .1))
+add-set-requires c κs = (
+  (c .before .before .before .before .before .before .before .pre .0 .size, c .before .before .before .before .before .before .before .pre .0 .few),
+  (
+    pair-low (c .before .before .before .before .before .before .before .pre .0) _ (c .before .before .before .before .form-at .ensures) (c .before .before .second .given .1) .1,
+    c .before .before .before .before .before .before .before .pre .1,
+  ),
+)
 
 same-length-2 : tie.Need-same-length-2
 same-length-2 c = search needs
 
 returns-2 : tie.Need-returns-2
 unfolding setAt
-returns-2 c = second-pair _ _ _ (c .before .before .before .before .before .before .before .form-at .ensures) (c .before .before .before .before .before .second .given .1) (c .before .before .add-set .ensures)
+returns-2 c =
+    second-pair _ _ _ (c .before .before .before .before .before .before .before .form-at .ensures) (c .before .before .before .before .before .second .given .1)
+    (c .before .before .add-set .ensures)
 
 pub second-adds-spec : {M : Type 1} → statement M
 second-adds-spec =

@@ -25,7 +25,14 @@ loop-holds : tie.Need-loop-holds Inv-loop μ-loop
 loop-holds c = (omega arith, refl, adds-first _ _)
 
 row-adds-requires : tie.Need-row-adds-requires Inv-loop μ-loop
-row-adds-requires c κs = (ready-stays _ (c .before .before .before .before .before .pre .0) (c .before .before .loop .inv .2), (rw (program-stays _ (c .before .before .before .before .before .pre .0 .few) (c .before .before .loop .inv .2)) (c .before .before .before .before .before .pre .1), omega (arith, c .before .before .before .before .before .pre .0 .few)))
+row-adds-requires c κs = (
+  ready-stays _ (c .before .before .before .before .before .pre .0) (c .before .before .loop .inv .2),
+  (
+    rw (program-stays _ (c .before .before .before .before .before .pre .0 .few) (c .before .before .loop .inv .2)) (c .before .before .before .before .before .pre .1),
+    omega
+        (arith, c .before .before .before .before .before .pre .0 .few),
+  ),
+)
 
 either-requires : tie.Need-either-requires Inv-loop μ-loop
 either-requires c κs = search needs
@@ -37,7 +44,14 @@ loop-less : tie.Need-loop-less Inv-loop μ-loop
 loop-less c = search needs
 
 loop-again : tie.Need-loop-again Inv-loop μ-loop
-loop-again c = (omega arith, c .before .before .before .row-adds .ensures .size ∙ c .before .before .before .before .before .before .loop .inv .1, rw (c .either .ensures) (adds-next _ _ (λ p i flow comm. keepsAt p flow comm i) (c .before .before .before .before .before .before .before .before .before .pre .0 .few) (c .before .before .before .before .before .before .loop .inv .2) (c .before .before .before .row-adds .ensures)))
+loop-again c =
+    let b = c .before .before .before .before in
+    let d = b .before .before .before .before in (
+      omega arith,
+      c .before .before .before .row-adds .ensures .size ∙ b .before .before .loop .inv .1,
+      rw (c .either .ensures)
+          (adds-next _ _ (λ p i flow comm. keepsAt p flow comm i) (d .before .pre .0 .few) (b .before .before .loop .inv .2) (c .before .before .before .row-adds .ensures)),
+    )
 
 same-length : tie.Need-same-length Inv-loop μ-loop
 same-length c = c .before .loop .inv .1

@@ -17,13 +17,21 @@ loop-holds : tie.Need-loop-holds Inv-loop μ-loop
 loop-holds c = (refl, spreads-none _ _)
 
 round-requires : tie.Need-round-requires Inv-loop μ-loop
-round-requires c κs = (ready-reset _ (c .before .before .before .before .before .pre .0) (c .before .before .loop .inv .1 .resets), rw (program-reset _ (c .before .before .before .before .before .pre .0 .few) (c .before .before .loop .inv .1 .resets)) (c .before .before .before .before .before .pre .1))
+round-requires c κs = (
+  ready-reset _ (c .before .before .before .before .before .pre .0) (c .before .before .loop .inv .1 .resets),
+  rw
+      (program-reset _ (c .before .before .before .before .before .pre .0 .few) (c .before .before .loop .inv .1 .resets)) (c .before .before .before .before .before .pre .1),
+)
 
 loop-less : tie.Need-loop-less Inv-loop μ-loop
 loop-less c = rw (c .before .before .before .before .loop-test .taken) (rounds-fall _ (grows-by _ _ (λ flow comm t. t) (c .before .before .round .ensures)))
 
 loop-again : tie.Need-loop-again Inv-loop μ-loop
-loop-again c = (c .before .before .round .ensures .size ∙ c .before .before .before .before .before .loop .inv .0, spreads-more _ (c .before .before .before .before .before .before .before .before .pre .0 .few) (c .before .before .before .before .before .loop .inv .1) (c .before .before .round .ensures))
+loop-again c = (
+  c .before .before .round .ensures .size ∙ c .before .before .before .before .before .loop .inv .0,
+  spreads-more _
+      (c .before .before .before .before .before .before .before .before .pre .0 .few) (c .before .before .before .before .before .loop .inv .1) (c .before .before .round .ensures),
+)
 
 same-length : tie.Need-same-length Inv-loop μ-loop
 same-length c = c .before .loop .inv .0

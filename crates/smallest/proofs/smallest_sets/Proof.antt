@@ -15,19 +15,31 @@ slice-aggregate-spread : tie.Need-slice-aggregate-spread
 slice-aggregate-spread c = search needs
 
 spread-requires : tie.Need-spread-requires
-spread-requires c κs = (ready-reset _ (c .before .before .before .before .before .before .before .before .before .pre) (c .before .before .before .before .clear-sets .ensures .resets), rw (program-reset _ (c .before .before .before .before .before .before .before .before .before .pre .few) (c .before .before .before .before .clear-sets .ensures .resets)) (c .before .before .before .before .before .before .result-names .ensures))
+spread-requires c κs =
+    let b = c .before .before .before .before in
+    let d = b .before .before .before .before in
+    (ready-reset _ (d .before .pre) (b .clear-sets .ensures .resets), rw (program-reset _ (d .before .pre .few) (b .clear-sets .ensures .resets)) (b .before .before .result-names .ensures))
 
 slice-aggregate-settle-rest : tie.Need-slice-aggregate-settle-rest
 slice-aggregate-settle-rest c = search needs
 
 settle-rest-requires : tie.Need-settle-rest-requires
-settle-rest-requires c κs = still-ready _ _ (ready-reset _ (c .before .before .before .before .before .before .before .before .before .before .before .before .before .before .pre) (c .before .before .before .before .before .before .before .before .before .clear-sets .ensures .resets)) (rw (program-reset _ (c .before .before .before .before .before .before .before .before .before .before .before .before .before .before .pre .few) (c .before .before .before .before .before .before .before .before .before .clear-sets .ensures .resets)) (c .before .before .before .before .before .before .before .before .before .before .before .result-names .ensures)) (c .before .before .before .before .spread .ensures)
+settle-rest-requires c κs =
+    let b = c .before .before .before .before in
+    let d = b .before .before .before .before in
+    still-ready _ _ (ready-reset _ (d .before .before .before .before .before .before .pre) (d .before .clear-sets .ensures .resets))
+    (rw (program-reset _ (d .before .before .before .before .before .before .pre .few) (d .before .clear-sets .ensures .resets)) (d .before .before .before .result-names .ensures))
+    (b .spread .ensures)
 
 same-length : tie.Need-same-length
 same-length c = search needs
 
 returns : tie.Need-returns
-returns c = least-left _ _ _ _ (c .before .before .before .before .before .before .before .before .before .before .before .before .before .before .before .before .before .pre .few) (c .before .before .before .before .before .before .before .before .before .before .before .before .clear-sets .ensures) (settles-grown _ (c .before .before .before .before .before .before .before .before .before .before .before .before .before .before .before .before .before .pre .few) (c .before .before .before .before .before .before .before .spread .ensures) (c .before .before .settle-rest .ensures))
+returns c =
+    let b = c .before .before .before .before in
+    let d = b .before .before .before .before in
+    least-left _ _ _ _ (d .before .before .before .before .before .before .before .before .before .pre .few) (d .before .before .before .before .clear-sets .ensures)
+    (settles-grown _ (d .before .before .before .before .before .before .before .before .before .pre .few) (b .before .before .before .spread .ensures) (c .before .before .settle-rest .ensures))
 
 pub smallest-sets-spec : {M : Type 1} → statement M
 smallest-sets-spec =
