@@ -138,7 +138,7 @@ fn asked_adds(store: &mut [u8], rows: u8, n: u8, ask: Ask, names: &[u8], k: u8) 
 }
 
 // The same of row k, if it is in the set of name a.
-fn member_adds(store: &mut [u8], rows: u8, n: u8, ask: Ask, names: &[u8], a: u8, k: u8) -> bool
+pub fn member_adds(store: &mut [u8], rows: u8, n: u8, ask: Ask, names: &[u8], a: u8, k: u8) -> bool
     requires { ⌜ Ready rows (now store) ⌝ }
     requires { ⌜ Names (storeProgram rows (now store)) (now names) ⌝ }
     requires { ⌜ (n < rowLimit) × AskLow ask ⌝ }

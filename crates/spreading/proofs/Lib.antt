@@ -1,2 +1,3 @@
 -- Laws of sets that grow.
 pub mod Growing
+pub mod Asked

@@ -9,35 +9,62 @@ use Rattle.spreading.proofs.spread.Statement.{statement}
 use Rattle.spreading.proofs.spread.Tie as tie
 
 abbrev Inv-loop : tie.InvT-loop
-Inv-loop store₀ rows names more₀ store more =
-    (length store ≡ length store₀) × Grows rows store₀ store false
+Inv-loop store₀ rows names parts notes₀ more₀ store notes more =
+    (length store ≡ length store₀) × (length notes ≡ 26082) × Grows rows store₀ store false
 
 abbrev μ-loop : tie.MeasureT-loop
-μ-loop store₀ rows names more₀ store more = roundsLeft store more
+μ-loop store₀ rows names parts notes₀ more₀ store notes more = roundsLeft store more
+
+parts-of-requires : tie.Need-parts-of-requires Inv-loop μ-loop
+parts-of-requires c κs = search needs
 
 loop-holds : tie.Need-loop-holds Inv-loop μ-loop
-loop-holds c = (refl, grows-none _ _)
+loop-holds c = (refl, search needs, grows-none _ _)
+
+slice-aggregate-sweep-down : tie.Need-slice-aggregate-sweep-down Inv-loop μ-loop
+slice-aggregate-sweep-down c = search needs
+
+slice-aggregate-sweep-down-2 : tie.Need-slice-aggregate-sweep-down-2 Inv-loop μ-loop
+slice-aggregate-sweep-down-2 c = search needs
 
 sweep-down-requires : tie.Need-sweep-down-requires Inv-loop μ-loop
-sweep-down-requires c κs = still-ready _ _ (c .before .before .before .before .before .pre .0) (c .before .before .before .before .before .pre .1) (c .before .before .loop .inv .1)
+sweep-down-requires c κs = still-ready _ _ (c .before .before .before .before .before .before .before .before .before .pre .0) (c .before .before .before .before .before .before .before .before .before .pre .1) (c .before .before .before .before .loop .inv .2)
+
+slice-aggregate-age : tie.Need-slice-aggregate-age Inv-loop μ-loop
+slice-aggregate-age c = search needs
+
+age-requires : tie.Need-age-requires Inv-loop μ-loop
+age-requires c κs = search needs
+
+slice-aggregate-sweep-up : tie.Need-slice-aggregate-sweep-up Inv-loop μ-loop
+slice-aggregate-sweep-up c = search needs
+
+slice-aggregate-sweep-up-2 : tie.Need-slice-aggregate-sweep-up-2 Inv-loop μ-loop
+slice-aggregate-sweep-up-2 c = search needs
 
 sweep-up-requires : tie.Need-sweep-up-requires Inv-loop μ-loop
-sweep-up-requires c κs = still-ready _ _ (c .before .before .before .before .before .before .before .before .before .pre .0) (c .before .before .before .before .before .before .before .before .before .pre .1) (grows-on _ (c .before .before .before .before .before .before .before .before .before .pre .0 .few) (c .before .before .before .before .before .before .loop .inv .1) (c .before .before .before .sweep-down .ensures))
+sweep-up-requires c κs = still-ready _ _ (c .before .before .before .before .before .before .before .before .before .before .before .before .before .before .before .before .before .before .before .pre .0) (c .before .before .before .before .before .before .before .before .before .before .before .before .before .before .before .before .before .before .before .pre .1) (grows-on _ (c .before .before .before .before .before .before .before .before .before .before .before .before .before .before .before .before .before .before .before .pre .0 .few) (c .before .before .before .before .before .before .before .before .before .before .before .before .before .before .loop .inv .2) (c .before .before .before .before .before .before .before .before .before .sweep-down .ensures))
+
+slice-aggregate-age-2 : tie.Need-slice-aggregate-age-2 Inv-loop μ-loop
+slice-aggregate-age-2 c = search needs
+
+age-requires-2 : tie.Need-age-requires-2 Inv-loop μ-loop
+age-requires-2 c κs = search needs
 
 either-requires : tie.Need-either-requires Inv-loop μ-loop
 either-requires c κs = search needs
 
 loop-less : tie.Need-loop-less Inv-loop μ-loop
-loop-less c = rw (c .before .before .before .before .before .before .before .before .before .loop-test .taken, c .either .ensures) (rounds-fall _ (grows-then _ (c .before .before .before .before .before .before .before .before .before .before .before .before .before .pre .0 .few) (c .before .before .before .before .before .before .before .sweep-down .ensures) (c .before .before .before .sweep-up .ensures)))
+loop-less c = rw (c .before .before .before .before .before .before .before .before .before .before .before .before .before .before .before .before .before .before .before .before .before .loop-test .taken, c .either .ensures) (rounds-fall _ (grows-then _ (c .before .before .before .before .before .before .before .before .before .before .before .before .before .before .before .before .before .before .before .before .before .before .before .before .before .before .before .pre .0 .few) (c .before .before .before .before .before .before .before .before .before .before .before .before .before .before .before .before .before .sweep-down .ensures) (c .before .before .before .before .before .before .before .sweep-up .ensures)))
 
 loop-again : tie.Need-loop-again Inv-loop μ-loop
-loop-again c = (c .before .before .before .sweep-up .ensures .resets .size ∙ (c .before .before .before .before .before .before .before .sweep-down .ensures .resets .size ∙ c .before .before .before .before .before .before .before .before .before .before .loop .inv .0), grows-on _ (c .before .before .before .before .before .before .before .before .before .before .before .before .before .pre .0 .few) (grows-on _ (c .before .before .before .before .before .before .before .before .before .before .before .before .before .pre .0 .few) (c .before .before .before .before .before .before .before .before .before .before .loop .inv .1) (c .before .before .before .before .before .before .before .sweep-down .ensures)) (c .before .before .before .sweep-up .ensures))
+loop-again c = (c .before .before .before .before .before .before .before .sweep-up .ensures .resets .size ∙ (c .before .before .before .before .before .before .before .before .before .before .before .before .before .before .before .before .before .sweep-down .ensures .resets .size ∙ c .before .before .before .before .before .before .before .before .before .before .before .before .before .before .before .before .before .before .before .before .before .before .loop .inv .0), search needs, grows-on _ (c .before .before .before .before .before .before .before .before .before .before .before .before .before .before .before .before .before .before .before .before .before .before .before .before .before .before .before .pre .0 .few) (grows-on _ (c .before .before .before .before .before .before .before .before .before .before .before .before .before .before .before .before .before .before .before .before .before .before .before .before .before .before .before .pre .0 .few) (c .before .before .before .before .before .before .before .before .before .before .before .before .before .before .before .before .before .before .before .before .before .before .loop .inv .2) (c .before .before .before .before .before .before .before .before .before .before .before .before .before .before .before .before .before .sweep-down .ensures)) (c .before .before .before .before .before .before .before .sweep-up .ensures))
 
 same-length : tie.Need-same-length Inv-loop μ-loop
 same-length c = c .before .loop .inv .0
 
 returns : tie.Need-returns Inv-loop μ-loop
-returns c = c .before .loop .inv .1
+returns c = c .before .loop .inv .2
 
 pub spread-spec : {M : Type 1} → statement M
 spread-spec =
@@ -45,9 +72,18 @@ spread-spec =
     (tie.spec
     Inv-loop
     μ-loop
+    parts-of-requires
     loop-holds
+    slice-aggregate-sweep-down
+    slice-aggregate-sweep-down-2
     sweep-down-requires
+    slice-aggregate-age
+    age-requires
+    slice-aggregate-sweep-up
+    slice-aggregate-sweep-up-2
     sweep-up-requires
+    slice-aggregate-age-2
+    age-requires-2
     either-requires
     loop-less
     loop-again

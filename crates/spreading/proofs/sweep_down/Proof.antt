@@ -5,22 +5,22 @@ use mathlib.Core.Path.{_≡_, refl, _∙_}
 use lib.ListN.{length}
 use borrow.Author.Needs.{needs}
 use Rattle.spreading.specs.Growing.{Grows}
-use Rattle.spreading.proofs.Growing.{grows-none, grows-then, grows-row, still-ready}
+use Rattle.spreading.proofs.Growing.{grows-none, grows-then, still-ready}
 use Rattle.spreading.proofs.sweep_down.Statement.{statement}
 use Rattle.spreading.proofs.sweep_down.Tie as tie
 
 abbrev Inv-loop : tie.InvT-loop
-Inv-loop store₀ rows names more₀ r₀ store more r =
-    (r ≤ rows) × (length store ≡ length store₀) × Grows rows store₀ store more
+Inv-loop store₀ rows names parts marks₀ more₀ r₀ store marks more r =
+    (r ≤ rows) × (length store ≡ length store₀) × (length marks ≡ length marks₀) × Grows rows store₀ store more
 
 abbrev μ-loop : tie.MeasureT-loop
-μ-loop store₀ rows names more₀ r₀ store more r = rows - r
+μ-loop store₀ rows names parts marks₀ more₀ r₀ store marks more r = rows - r
 
 loop-holds : tie.Need-loop-holds Inv-loop μ-loop
-loop-holds c = (omega arith, refl, grows-none _ _)
+loop-holds c = (omega arith, refl, refl, grows-none _ _)
 
-row-adds-requires : tie.Need-row-adds-requires Inv-loop μ-loop
-row-adds-requires c κs = (still-ready _ _ (c .before .before .before .before .before .pre .0) (c .before .before .before .before .before .pre .1) (c .before .before .loop .inv .2) .0, (still-ready _ _ (c .before .before .before .before .before .pre .0) (c .before .before .before .before .before .pre .1) (c .before .before .loop .inv .2) .1, omega (arith, c .before .before .before .before .before .pre .0 .few)))
+visit-requires : tie.Need-visit-requires Inv-loop μ-loop
+visit-requires c κs = (still-ready _ _ (c .before .before .before .before .before .before .before .before .pre .0) (c .before .before .before .before .before .before .before .before .pre .1) (c .before .before .before .loop .inv .3) .0, (still-ready _ _ (c .before .before .before .before .before .before .before .before .pre .0) (c .before .before .before .before .before .before .before .before .pre .1) (c .before .before .before .loop .inv .3) .1, omega arith))
 
 either-requires : tie.Need-either-requires Inv-loop μ-loop
 either-requires c κs = search needs
@@ -32,13 +32,16 @@ loop-less : tie.Need-loop-less Inv-loop μ-loop
 loop-less c = search needs
 
 loop-again : tie.Need-loop-again Inv-loop μ-loop
-loop-again c = (omega arith, c .before .before .before .row-adds .ensures .size ∙ c .before .before .before .before .before .before .loop .inv .1, rw (c .either .ensures) (grows-then _ (c .before .before .before .before .before .before .before .before .before .pre .0 .few) (c .before .before .before .before .before .before .loop .inv .2) (grows-row _ _ (omega arith) (c .before .before .before .row-adds .ensures))))
+loop-again c = (omega arith, c .before .before .before .before .before .visit .ensures .resets .size ∙ c .before .before .before .before .before .before .before .before .before .loop .inv .1, search needs, rw (c .either .ensures) (grows-then _ (c .before .before .before .before .before .before .before .before .before .before .before .before .before .before .pre .0 .few) (c .before .before .before .before .before .before .before .before .before .loop .inv .3) (c .before .before .before .before .before .visit .ensures)))
 
 same-length : tie.Need-same-length Inv-loop μ-loop
 same-length c = c .before .loop .inv .1
 
+same-length-2 : tie.Need-same-length-2 Inv-loop μ-loop
+same-length-2 c = c .before .loop .inv .2
+
 returns : tie.Need-returns Inv-loop μ-loop
-returns c = c .before .loop .inv .2
+returns c = c .before .loop .inv .3
 
 pub sweep-down-spec : {M : Type 1} → statement M
 sweep-down-spec =
@@ -47,10 +50,11 @@ sweep-down-spec =
     Inv-loop
     μ-loop
     loop-holds
-    row-adds-requires
+    visit-requires
     either-requires
     add-r
     loop-less
     loop-again
     same-length
+    same-length-2
     returns)
