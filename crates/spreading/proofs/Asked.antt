@@ -24,7 +24,8 @@ form-keeps n r s l e q flow comm t = rw (sym e ∙ q) at (row-keeps n r s flow c
 
 module _ (n r k : ℕ) {s s′ : Bytes} {more : Bool} {x : Row} {b : Bind} (l : r < n) (m : k < n) (e : x ≡ rowAt (storeProgram n s) r) (q : x ≡ Row.Bind b) where
   pub grows-member : (ask : Ask) (a : ℕ)
-      → ((flow comm : Table) → So (keepsForm (storeProgram n s) flow comm r (b .name) (b .form)) → So (forEach (storeProgram n s) (flow a) (λ j. askRule (storeProgram n s) (b .name) ask j flow comm)))
+      → ((flow comm : Table) → So (keepsForm (storeProgram n s) flow comm r (b .name) (b .form)) → So (forEach (storeProgram n s) (flow a) (λ j. askRule (storeProgram n s)
+      (b .name) ask j flow comm)))
       → Adds (memberRule (storeProgram n s) (b .name) ask a k) s s′ more → Grows n s s′ more
   unfolding forEach memberRule
   grows-member ask a told h = grows-by n _ (λ flow comm t. all-elim n _ (rw (program-length n s) at (told flow comm (form-keeps n r s l e q flow comm t))) k m) h

@@ -58,7 +58,8 @@ grows-on n few h k =
     record { resets = j .resets; flags = j .flags; fewer = j .fewer; really = λ e. absurd (false≢true e); inside = j .inside }
 
 -- by a rule that tables keep if they keep all
-pub grows-by : (n : ℕ) (rule : Rule) {s s′ : Bytes} {more : Bool} → ((flow comm : Table) → So (keepsAll (storeProgram n s) flow comm) → So (rule flow comm)) → Adds rule s s′ more → Grows n s s′ more
+pub grows-by : (n : ℕ) (rule : Rule) {s s′ : Bytes} {more : Bool} → ((flow comm : Table) → So (keepsAll (storeProgram n s) flow comm) → So (rule flow comm)) → Adds rule s s′ more
+    → Grows n s s′ more
 grows-by n rule asked h = record {
   resets = record { size = h .size; rows = h .rows; rest = h .rest };
   flags = h .flags;

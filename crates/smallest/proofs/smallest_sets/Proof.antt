@@ -38,8 +38,10 @@ returns : tie.Need-returns
 returns c =
     let b = c .before .before .before .before in
     let d = b .before .before .before .before in
-    least-left _ _ _ _ (d .before .before .before .before .before .before .before .before .before .pre .few) (d .before .before .before .before .clear-sets .ensures)
-    (settles-grown _ (d .before .before .before .before .before .before .before .before .before .pre .few) (b .before .before .before .spread .ensures) (c .before .before .settle-rest .ensures))
+    let e = d .before .before .before .before in
+    let few = e .before .before .before .before .before .pre .few in
+    least-left _ _ _ _ few (e .clear-sets .ensures)
+    (settles-grown _ few (b .before .before .before .spread .ensures) (c .before .before .settle-rest .ensures))
 
 pub smallest-sets-spec : {M : Type 1} → statement M
 smallest-sets-spec =

@@ -28,7 +28,10 @@ slice-aggregate-sweep-down-2 : tie.Need-slice-aggregate-sweep-down-2 Inv-loop μ
 slice-aggregate-sweep-down-2 c = search needs
 
 sweep-down-requires : tie.Need-sweep-down-requires Inv-loop μ-loop
-sweep-down-requires c κs = still-ready _ _ (c .before .before .before .before .before .before .before .before .before .pre .0) (c .before .before .before .before .before .before .before .before .before .pre .1) (c .before .before .before .before .loop .inv .2)
+sweep-down-requires c κs =
+    let b = c .before .before .before .before in
+    let d = b .before .before .before .before in
+    still-ready _ _ (d .before .pre .0) (d .before .pre .1) (b .loop .inv .2)
 
 slice-aggregate-age : tie.Need-slice-aggregate-age Inv-loop μ-loop
 slice-aggregate-age c = search needs
@@ -43,7 +46,13 @@ slice-aggregate-sweep-up-2 : tie.Need-slice-aggregate-sweep-up-2 Inv-loop μ-loo
 slice-aggregate-sweep-up-2 c = search needs
 
 sweep-up-requires : tie.Need-sweep-up-requires Inv-loop μ-loop
-sweep-up-requires c κs = still-ready _ _ (c .before .before .before .before .before .before .before .before .before .before .before .before .before .before .before .before .before .before .before .pre .0) (c .before .before .before .before .before .before .before .before .before .before .before .before .before .before .before .before .before .before .before .pre .1) (grows-on _ (c .before .before .before .before .before .before .before .before .before .before .before .before .before .before .before .before .before .before .before .pre .0 .few) (c .before .before .before .before .before .before .before .before .before .before .before .before .before .before .loop .inv .2) (c .before .before .before .before .before .before .before .before .before .sweep-down .ensures))
+sweep-up-requires c κs =
+    let b = c .before .before .before .before in
+    let d = b .before .before .before .before in
+    still-ready _ _ (d .before .before .before .before .before .before .before .before .before .before .before .pre .0)
+    (d .before .before .before .before .before .before .before .before .before .before .before .pre .1)
+    (grows-on _ (d .before .before .before .before .before .before .before .before .before .before .before .pre .0 .few) (d .before .before .before .before .before .before .loop .inv .2)
+    (d .before .sweep-down .ensures))
 
 slice-aggregate-age-2 : tie.Need-slice-aggregate-age-2 Inv-loop μ-loop
 slice-aggregate-age-2 c = search needs
@@ -55,10 +64,29 @@ either-requires : tie.Need-either-requires Inv-loop μ-loop
 either-requires c κs = search needs
 
 loop-less : tie.Need-loop-less Inv-loop μ-loop
-loop-less c = rw (c .before .before .before .before .before .before .before .before .before .before .before .before .before .before .before .before .before .before .before .before .before .loop-test .taken, c .either .ensures) (rounds-fall _ (grows-then _ (c .before .before .before .before .before .before .before .before .before .before .before .before .before .before .before .before .before .before .before .before .before .before .before .before .before .before .before .pre .0 .few) (c .before .before .before .before .before .before .before .before .before .before .before .before .before .before .before .before .before .sweep-down .ensures) (c .before .before .before .before .before .before .before .sweep-up .ensures)))
+loop-less c =
+    let b = c .before .before .before .before in
+    let d = b .before .before .before .before in
+    rw (d .before .before .before .before .before .before .before .before .before .before .before .before .before .loop-test .taken, c .either .ensures)
+    (rounds-fall _
+    (grows-then _ (d .before .before .before .before .before .before .before .before .before .before .before .before .before .before .before .before .before .before .before .pre .0 .few)
+    (d .before .before .before .before .before .before .before .before .before .sweep-down .ensures) (b .before .before .before .sweep-up .ensures)))
 
 loop-again : tie.Need-loop-again Inv-loop μ-loop
-loop-again c = (c .before .before .before .before .before .before .before .sweep-up .ensures .resets .size ∙ (c .before .before .before .before .before .before .before .before .before .before .before .before .before .before .before .before .before .sweep-down .ensures .resets .size ∙ c .before .before .before .before .before .before .before .before .before .before .before .before .before .before .before .before .before .before .before .before .before .before .loop .inv .0), search needs, grows-on _ (c .before .before .before .before .before .before .before .before .before .before .before .before .before .before .before .before .before .before .before .before .before .before .before .before .before .before .before .pre .0 .few) (grows-on _ (c .before .before .before .before .before .before .before .before .before .before .before .before .before .before .before .before .before .before .before .before .before .before .before .before .before .before .before .pre .0 .few) (c .before .before .before .before .before .before .before .before .before .before .before .before .before .before .before .before .before .before .before .before .before .before .loop .inv .2) (c .before .before .before .before .before .before .before .before .before .before .before .before .before .before .before .before .before .sweep-down .ensures)) (c .before .before .before .before .before .before .before .sweep-up .ensures))
+loop-again c =
+    let b = c .before .before .before .before in
+    let d = b .before .before .before .before in (
+      b .before .before .before .sweep-up .ensures .resets .size ∙
+          (d .before .before .before .before .before .before .before .before .before .sweep-down .ensures .resets .size ∙
+          d .before .before .before .before .before .before .before .before .before .before .before .before .before .before .loop .inv .0),
+      search needs,
+      grows-on _
+          (d .before .before .before .before .before .before .before .before .before .before .before .before .before .before .before .before .before .before .before .pre .0 .few)
+          (grows-on _ (d .before .before .before .before .before .before .before .before .before .before .before .before .before .before .before .before .before .before .before .pre .0 .few)
+          (d .before .before .before .before .before .before .before .before .before .before .before .before .before .before .loop .inv .2)
+          (d .before .before .before .before .before .before .before .before .before .sweep-down .ensures))
+          (b .before .before .before .sweep-up .ensures),
+    )
 
 same-length : tie.Need-same-length Inv-loop μ-loop
 same-length c = c .before .loop .inv .0

@@ -23,7 +23,15 @@ sub-left : tie.Need-sub-left Inv-loop μ-loop
 sub-left c = search needs
 
 visit-requires : tie.Need-visit-requires Inv-loop μ-loop
-visit-requires c κs = (still-ready _ _ (c .before .before .before .before .before .before .before .before .pre .0) (c .before .before .before .before .before .before .before .before .pre .1) (c .before .before .before .loop .inv .3) .0, (still-ready _ _ (c .before .before .before .before .before .before .before .before .pre .0) (c .before .before .before .before .before .before .before .before .pre .1) (c .before .before .before .loop .inv .3) .1, omega arith))
+visit-requires c κs = (
+  still-ready _ _ (c .before .before .before .before .before .before .before .before .pre .0) (c .before .before .before .before .before .before .before .before .pre .1)
+      (c .before .before .before .loop .inv .3) .0,
+  (
+    still-ready _ _ (c .before .before .before .before .before .before .before .before .pre .0) (c .before .before .before .before .before .before .before .before .pre .1)
+        (c .before .before .before .loop .inv .3) .1,
+    omega arith,
+  ),
+)
 
 either-requires : tie.Need-either-requires Inv-loop μ-loop
 either-requires c κs = search needs
@@ -32,7 +40,15 @@ loop-less : tie.Need-loop-less Inv-loop μ-loop
 loop-less c = search needs
 
 loop-again : tie.Need-loop-again Inv-loop μ-loop
-loop-again c = (omega arith, c .before .before .before .before .before .visit .ensures .resets .size ∙ c .before .before .before .before .before .before .before .before .before .loop .inv .1, search needs, rw (c .either .ensures) (grows-then _ (c .before .before .before .before .before .before .before .before .before .before .before .before .before .before .pre .0 .few) (c .before .before .before .before .before .before .before .before .before .loop .inv .3) (c .before .before .before .before .before .visit .ensures)))
+loop-again c =
+    let b = c .before .before .before .before in
+    let d = b .before .before .before .before in (
+      omega arith,
+      b .before .visit .ensures .resets .size ∙ d .before .loop .inv .1,
+      search needs,
+      rw (c .either .ensures)
+          (grows-then _ (d .before .before .before .before .before .before .pre .0 .few) (d .before .loop .inv .3) (b .before .visit .ensures)),
+    )
 
 same-length : tie.Need-same-length Inv-loop μ-loop
 same-length c = c .before .loop .inv .1

@@ -9,13 +9,23 @@ cell-requires : tie.Need-cell-requires
 cell-requires c κs = search needs
 
 row-adds-requires : tie.Need-row-adds-requires
-row-adds-requires c κs = (c .before .before .before .before .before .before .before .before .pre .0, (c .before .before .before .before .before .before .before .before .pre .1 .0, omega (arith, c .before .before .before .before .before .before .before .before .pre .0 .few, c .before .before .before .before .before .before .before .before .pre .1 .1)))
+row-adds-requires c κs = (
+  c .before .before .before .before .before .before .before .before .pre .0,
+  (
+    c .before .before .before .before .before .before .before .before .pre .1 .0,
+    omega
+        (arith, c .before .before .before .before .before .before .before .before .pre .0 .few, c .before .before .before .before .before .before .before .before .pre .1 .1),
+  ),
+)
 
 same-length : tie.Need-same-length
 same-length c = search needs
 
 returns : tie.Need-returns
-returns c = grows-row _ _ (c .before .before .before .before .before .before .before .before .before .before .before .pre .1 .1) (c .before .before .row-adds .ensures)
+returns c =
+    let b = c .before .before .before .before in
+    let d = b .before .before .before .before in
+    grows-row _ _ (d .before .before .before .pre .1 .1) (c .before .before .row-adds .ensures)
 
 asks-all-requires : tie.Need-asks-all-requires
 asks-all-requires c κs = search needs
