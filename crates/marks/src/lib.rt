@@ -8,13 +8,16 @@ pub const NONE: u8 = 255;
 
 pub const COMMS: u8 = Store::ROWS as u8;
 // A mark for each name's set, and one for those of the channels; for each member of a set; for each send; for each row and each row in its set.
+// Then, for each receive, a set of what its channels hold.
 pub const MEMBERS: usize = Store::ROWS + 1;
 
 pub const SENDS: usize = MEMBERS + Store::MEMBERS;
 
 pub const SEEN: usize = SENDS + Store::ROWS;
 
-pub const SIZE: usize = SEEN + Store::ROWS * Store::ROWS;
+pub const GIVEN: usize = SEEN + Store::ROWS * Store::ROWS;
+
+pub const SIZE: usize = GIVEN + Store::ROWS * Store::MEMBERS;
 // The names whose sets make up what a value row stands for, at most two for each.
 pub const PARTS: usize = 2 * Store::ROWS;
 
@@ -114,6 +117,18 @@ pub fn note(marks: &mut [u8], parts: &[u8], n: u8) {
     }
 }
 
+// Marks all names and members.
+pub fn start(marks: &mut [u8]) {
+    if marks.len() < SIZE {
+        return;
+    }
+    let mut i = 0;
+    while i < SENDS {
+        marks[i] = 1;
+        i += 1;
+    }
+}
+
 // One less, down to 0.
 fn less(mark: u8) -> u8 {
     if 0 < mark { mark - 1 } else { 0 }
@@ -184,6 +199,99 @@ pub fn asks_some(store: &[u8], marks: &[u8], r: u8) -> bool {
     has_marked(store, marks, watched)
 }
 
+// Joins the set of channel row c to what receive row k is given.
+fn join_given(store: &[u8], marks: &mut [u8], k: u8, c: u8) {
+    let from = Store::COMMS + c as usize * Store::MEMBERS;
+    let to = GIVEN + k as usize * Store::MEMBERS;
+    if store.len() < from + Store::MEMBERS {
+        return;
+    }
+    if marks.len() < to + Store::MEMBERS {
+        return;
+    }
+    let mut i = 0;
+    while i < Store::MEMBERS {
+        let at = from + i;
+        let new = store[at];
+        let place = to + i;
+        let old = marks[place];
+        marks[place] = sets::larger(old, new);
+        i += 1;
+    }
+}
+
+// The same, if row c is in the set of a name.
+fn hear_channel(store: &[u8], marks: &mut [u8], k: u8, name: u8, c: u8) {
+    let member = c as usize + 1;
+    if byte_at(
+        store,
+        Store::FLOWS + name as usize * Store::MEMBERS + member,
+    )
+        == 0
+    {
+        return;
+    }
+    join_given(store, marks, k, c);
+}
+
+// What receive row k is given by its channels.
+fn hear_row(store: &[u8], rows: u8, marks: &mut [u8], k: u8) {
+    if cell(store, k, 0) != 5 {
+        return;
+    }
+    let name = cell(store, k, 3);
+    let mut c = 0;
+    while c < rows {
+        hear_channel(store, marks, k, name, c);
+        c += 1;
+    }
+}
+
+// What each receive row is given.
+pub fn hear(store: &[u8], rows: u8, marks: &mut [u8]) {
+    let mut k = 0;
+    while k < rows {
+        hear_row(store, rows, marks, k);
+        k += 1;
+    }
+}
+
+// Whether receive row k is given what is not in the set of name n. Every member is looked at, so that the loop has no way out but its end.
+fn gives_more(store: &[u8], marks: &[u8], n: u8, k: u8) -> bool {
+    let to = Store::FLOWS + n as usize * Store::MEMBERS;
+    let from = GIVEN + k as usize * Store::MEMBERS;
+    if store.len() < to + Store::MEMBERS {
+        return true;
+    }
+    if marks.len() < from + Store::MEMBERS {
+        return true;
+    }
+    let mut found = 0;
+    let mut i = 0;
+    while i < Store::MEMBERS {
+        let at = to + i;
+        let place = from + i;
+        let new = sets::unless_in(marks[place], store[at]);
+        found = sets::larger(found, new);
+        i += 1;
+    }
+    0 < found
+}
+
+// Whether a sync at row r is given nothing new by the receive row k.
+fn heard(store: &[u8], marks: &[u8], r: u8, k: u8) -> bool {
+    if cell(store, r, 0) != 11 {
+        return false;
+    }
+    if cell(store, k, 0) != 5 {
+        return false;
+    }
+    if gives_more(store, marks, cell(store, r, 1), k) {
+        return false;
+    }
+    true
+}
+
 // Whether a sync at row r needs nothing of the send row k: another sync had it, and unit is in its set.
 fn sent(store: &[u8], marks: &[u8], r: u8, k: u8) -> bool {
     if cell(store, r, 0) != 11 {
@@ -207,6 +315,9 @@ pub fn asks_member(store: &[u8], marks: &[u8], r: u8, all: bool, k: u8) -> bool 
         return false;
     }
     if sent(store, marks, r, k) {
+        return false;
+    }
+    if heard(store, marks, r, k) {
         return false;
     }
     if all {

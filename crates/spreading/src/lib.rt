@@ -49,11 +49,14 @@ pub fn spread(store: &mut [u8], rows: u8, names: &[u8])
     ensures { λ _. ⌜ Grows rows (now (store .entry)) (now (store .exit)) false ⌝ }
 {
     let parts = marks::parts_of(store, rows, names);
-    let mut notes = [2u8; marks::SIZE];
+    let mut notes = [0u8; marks::SIZE];
+    marks::start(&mut notes);
     let mut more = true;
     while more {
+        marks::hear(store, rows, &mut notes);
         let down = sweep_down(store, rows, names, &parts, &mut notes);
         marks::age(&mut notes);
+        marks::hear(store, rows, &mut notes);
         let up = sweep_up(store, rows, names, &parts, &mut notes);
         marks::age(&mut notes);
         more = either(down, up);

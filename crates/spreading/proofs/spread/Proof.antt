@@ -10,7 +10,7 @@ use Rattle.spreading.proofs.spread.Tie as tie
 
 abbrev Inv-loop : tie.InvT-loop
 Inv-loop store₀ rows names parts notes₀ more₀ store notes more =
-    (length store ≡ length store₀) × (length notes ≡ 26082) × Grows rows store₀ store false
+    (length store ≡ length store₀) × (length notes ≡ 51842) × Grows rows store₀ store false
 
 abbrev μ-loop : tie.MeasureT-loop
 μ-loop store₀ rows names parts notes₀ more₀ store notes more = roundsLeft store more
@@ -18,8 +18,20 @@ abbrev μ-loop : tie.MeasureT-loop
 parts-of-requires : tie.Need-parts-of-requires Inv-loop μ-loop
 parts-of-requires c κs = search needs
 
+slice-aggregate-start : tie.Need-slice-aggregate-start Inv-loop μ-loop
+slice-aggregate-start c = search needs
+
+start-requires : tie.Need-start-requires Inv-loop μ-loop
+start-requires c κs = search needs
+
 loop-holds : tie.Need-loop-holds Inv-loop μ-loop
 loop-holds c = (refl, search needs, grows-none _ _)
+
+slice-aggregate-hear : tie.Need-slice-aggregate-hear Inv-loop μ-loop
+slice-aggregate-hear c = search needs
+
+hear-requires : tie.Need-hear-requires Inv-loop μ-loop
+hear-requires c κs = search needs
 
 slice-aggregate-sweep-down : tie.Need-slice-aggregate-sweep-down Inv-loop μ-loop
 slice-aggregate-sweep-down c = search needs
@@ -31,13 +43,19 @@ sweep-down-requires : tie.Need-sweep-down-requires Inv-loop μ-loop
 sweep-down-requires c κs =
     let b = c .before .before .before .before in
     let d = b .before .before .before .before in
-    still-ready _ _ (d .before .pre .0) (d .before .pre .1) (b .loop .inv .2)
+    still-ready _ _ (d .before .before .before .before .before .before .before .before .pre .0) (d .before .before .before .before .before .before .before .before .pre .1) (d .loop .inv .2)
 
 slice-aggregate-age : tie.Need-slice-aggregate-age Inv-loop μ-loop
 slice-aggregate-age c = search needs
 
 age-requires : tie.Need-age-requires Inv-loop μ-loop
 age-requires c κs = search needs
+
+slice-aggregate-hear-2 : tie.Need-slice-aggregate-hear-2 Inv-loop μ-loop
+slice-aggregate-hear-2 c = search needs
+
+hear-requires-2 : tie.Need-hear-requires-2 Inv-loop μ-loop
+hear-requires-2 c κs = search needs
 
 slice-aggregate-sweep-up : tie.Need-slice-aggregate-sweep-up Inv-loop μ-loop
 slice-aggregate-sweep-up c = search needs
@@ -49,10 +67,15 @@ sweep-up-requires : tie.Need-sweep-up-requires Inv-loop μ-loop
 sweep-up-requires c κs =
     let b = c .before .before .before .before in
     let d = b .before .before .before .before in
-    still-ready _ _ (d .before .before .before .before .before .before .before .before .before .before .before .pre .0)
-    (d .before .before .before .before .before .before .before .before .before .before .before .pre .1)
-    (grows-on _ (d .before .before .before .before .before .before .before .before .before .before .before .pre .0 .few) (d .before .before .before .before .before .before .loop .inv .2)
-    (d .before .sweep-down .ensures))
+    let e = d .before .before .before .before .before .before .before .before in
+    let g = e .before .before .before .before .before .before .before .before in
+    still-ready _ _
+    (g .before .before .before .before .before .before .pre .0)
+    (g .before .before .before .before .before .before .pre .1)
+    (grows-on _
+    (g .before .before .before .before .before .before .pre .0 .few)
+    (e .before .before .before .before .before .before .loop .inv .2)
+    (d .before .before .before .before .before .sweep-down .ensures))
 
 slice-aggregate-age-2 : tie.Need-slice-aggregate-age-2 Inv-loop μ-loop
 slice-aggregate-age-2 c = search needs
@@ -67,24 +90,35 @@ loop-less : tie.Need-loop-less Inv-loop μ-loop
 loop-less c =
     let b = c .before .before .before .before in
     let d = b .before .before .before .before in
-    rw (d .before .before .before .before .before .before .before .before .before .before .before .before .before .loop-test .taken, c .either .ensures)
+    let e = d .before .before .before .before .before .before .before .before in
+    let g = e .before .before .before .before .before .before .before .before in
+    let h = g .before .before .before .before .before .before .before .before in
+    rw (
+      g .before .before .before .before .before .loop-test .taken,
+      c .either .ensures,
+    )
     (rounds-fall _
-    (grows-then _ (d .before .before .before .before .before .before .before .before .before .before .before .before .before .before .before .before .before .before .before .pre .0 .few)
-    (d .before .before .before .before .before .before .before .before .before .sweep-down .ensures) (b .before .before .before .sweep-up .ensures)))
+    (grows-then _
+    (h .before .before .before .before .before .before .pre .0 .few)
+    (e .before .before .before .before .before .sweep-down .ensures) (b .before .before .before .sweep-up .ensures)))
 
 loop-again : tie.Need-loop-again Inv-loop μ-loop
 loop-again c =
     let b = c .before .before .before .before in
-    let d = b .before .before .before .before in (
+    let d = b .before .before .before .before in
+    let e = d .before .before .before .before .before .before .before .before in
+    let g = e .before .before .before .before .before .before .before .before in
+    let h = g .before .before .before .before .before .before .before .before in (
       b .before .before .before .sweep-up .ensures .resets .size ∙
-          (d .before .before .before .before .before .before .before .before .before .sweep-down .ensures .resets .size ∙
-          d .before .before .before .before .before .before .before .before .before .before .before .before .before .before .loop .inv .0),
+          (e .before .before .before .before .before .sweep-down .ensures .resets .size ∙
+          g .before .before .before .before .before .before .loop .inv .0),
       search needs,
       grows-on _
-          (d .before .before .before .before .before .before .before .before .before .before .before .before .before .before .before .before .before .before .before .pre .0 .few)
-          (grows-on _ (d .before .before .before .before .before .before .before .before .before .before .before .before .before .before .before .before .before .before .before .pre .0 .few)
-          (d .before .before .before .before .before .before .before .before .before .before .before .before .before .before .loop .inv .2)
-          (d .before .before .before .before .before .before .before .before .before .sweep-down .ensures))
+          (h .before .before .before .before .before .before .pre .0 .few)
+          (grows-on _
+          (h .before .before .before .before .before .before .pre .0 .few)
+          (g .before .before .before .before .before .before .loop .inv .2)
+          (e .before .before .before .before .before .sweep-down .ensures))
           (b .before .before .before .sweep-up .ensures),
     )
 
@@ -101,12 +135,18 @@ spread-spec =
     Inv-loop
     μ-loop
     parts-of-requires
+    slice-aggregate-start
+    start-requires
     loop-holds
+    slice-aggregate-hear
+    hear-requires
     slice-aggregate-sweep-down
     slice-aggregate-sweep-down-2
     sweep-down-requires
     slice-aggregate-age
     age-requires
+    slice-aggregate-hear-2
+    hear-requires-2
     slice-aggregate-sweep-up
     slice-aggregate-sweep-up-2
     sweep-up-requires
