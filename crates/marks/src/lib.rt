@@ -21,6 +21,19 @@ pub const SIZE: usize = GIVEN + Store::ROWS * Store::MEMBERS;
 // The names whose sets make up what a value row stands for, at most two for each.
 pub const PARTS: usize = 2 * Store::ROWS;
 
+// The kinds of rows that are told apart here, as the store has them: the value rows that hold names are of the kinds from SEND to FUN, and from SYNC on a row asks something of the rows in a set.
+pub const SEND: u8 = 4;
+
+pub const RECV: u8 = 5;
+
+pub const PAIR: u8 = 6;
+
+pub const FUN: u8 = 9;
+
+pub const SYNC: u8 = 11;
+
+pub const CASE: u8 = 14;
+
 // Byte i of row r.
 pub fn cell(store: &[u8], r: u8, i: usize) -> u8
     requires { ⌜ i < 8 ⌝ }
@@ -39,13 +52,13 @@ pub fn put(marks: &mut [u8], at: usize, value: u8) {
 // The first name of a value row: for a function, that of its result.
 fn part_one(store: &[u8], names: &[u8], k: u8) -> u8 {
     let kind = cell(store, k, 0);
-    if kind < 4 {
+    if kind < SEND {
         return NONE;
     }
-    if 9 < kind {
+    if FUN < kind {
         return NONE;
     }
-    if kind == 9 {
+    if kind == FUN {
         let body = cell(store, k, 5);
         return byte_at(names, body as usize);
     }
@@ -55,13 +68,13 @@ fn part_one(store: &[u8], names: &[u8], k: u8) -> u8 {
 // The second name of a send or a pair; what a receive gives changes with the sets of the channels.
 fn part_two(store: &[u8], k: u8) -> u8 {
     let kind = cell(store, k, 0);
-    if kind == 4 {
+    if kind == SEND {
         return cell(store, k, 4);
     }
-    if kind == 5 {
+    if kind == RECV {
         return COMMS;
     }
-    if kind == 6 {
+    if kind == PAIR {
         return cell(store, k, 4);
     }
     NONE
@@ -69,7 +82,7 @@ fn part_two(store: &[u8], k: u8) -> u8 {
 
 // The names of all value rows.
 pub fn parts_of(store: &[u8], rows: u8, names: &[u8]) -> [u8; PARTS] {
-    let mut parts = [255u8; PARTS];
+    let mut parts = [NONE; PARTS];
     let mut k = 0;
     while k < rows {
         put(&mut parts, k as usize, part_one(store, names, k));
@@ -175,10 +188,10 @@ pub fn has_marked(store: &[u8], marks: &[u8], n: u8) -> bool {
 // Whether row r asks something anew of all members: the argument of an apply changed, or the result of a case's branch.
 pub fn asks_all(store: &[u8], names: &[u8], marks: &[u8], r: u8) -> bool {
     let kind = cell(store, r, 0);
-    if kind < 14 {
+    if kind < CASE {
         return false;
     }
-    if 14 < kind {
+    if CASE < kind {
         let argument = cell(store, r, 4);
         return 0 < byte_at(marks, argument as usize);
     }
@@ -236,7 +249,7 @@ fn hear_channel(store: &[u8], marks: &mut [u8], k: u8, name: u8, c: u8) {
 
 // What receive row k is given by its channels.
 fn hear_row(store: &[u8], rows: u8, marks: &mut [u8], k: u8) {
-    if cell(store, k, 0) != 5 {
+    if cell(store, k, 0) != RECV {
         return;
     }
     let name = cell(store, k, 3);
@@ -280,10 +293,10 @@ fn gives_more(store: &[u8], marks: &[u8], n: u8, k: u8) -> bool {
 
 // Whether a sync at row r is given nothing new by the receive row k.
 fn heard(store: &[u8], marks: &[u8], r: u8, k: u8) -> bool {
-    if cell(store, r, 0) != 11 {
+    if cell(store, r, 0) != SYNC {
         return false;
     }
-    if cell(store, k, 0) != 5 {
+    if cell(store, k, 0) != RECV {
         return false;
     }
     if gives_more(store, marks, cell(store, r, 1), k) {
@@ -294,10 +307,10 @@ fn heard(store: &[u8], marks: &[u8], r: u8, k: u8) -> bool {
 
 // Whether a sync at row r needs nothing of the send row k: another sync had it, and unit is in its set.
 fn sent(store: &[u8], marks: &[u8], r: u8, k: u8) -> bool {
-    if cell(store, r, 0) != 11 {
+    if cell(store, r, 0) != SYNC {
         return false;
     }
-    if cell(store, k, 0) != 4 {
+    if cell(store, k, 0) != SEND {
         return false;
     }
     let name = cell(store, r, 1) as usize;
@@ -332,14 +345,14 @@ pub fn asks_member(store: &[u8], marks: &[u8], r: u8, all: bool, k: u8) -> bool 
 // The sets beside that of its name that row r adds to because of row k: those of a case's names, of a function's parameter, of channels.
 fn other_set(store: &[u8], r: u8, k: u8) -> u8 {
     let kind = cell(store, r, 0);
-    if 14 < kind {
+    if CASE < kind {
         return cell(store, k, 4);
     }
-    if kind == 14 {
+    if kind == CASE {
         return cell(store, r, 4);
     }
-    if kind == 11 {
-        if cell(store, k, 0) == 4 {
+    if kind == SYNC {
+        if cell(store, k, 0) == SEND {
             return COMMS;
         }
     }
@@ -347,7 +360,7 @@ fn other_set(store: &[u8], r: u8, k: u8) -> u8 {
 }
 
 fn third_set(store: &[u8], r: u8) -> u8 {
-    if cell(store, r, 0) == 14 {
+    if cell(store, r, 0) == CASE {
         return cell(store, r, 6);
     }
     NONE

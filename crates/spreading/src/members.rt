@@ -125,7 +125,7 @@ pub fn visit(
     requires { ⌜ r < rows ⌝ }
     ensures { λ more. ⌜ Grows rows (now (store .entry)) (now (store .exit)) more ⌝ }
 {
-    if cell(store, r, 0) < 11 {
+    if cell(store, r, 0) < marks::SYNC {
         return row_adds(store, rows, r, names);
     }
     let all = marks::asks_all(store, names, marks, r);

@@ -38,7 +38,7 @@ fn end_adds(store: &mut [u8], rows: u8, n: u8, end: End, k: u8) -> bool
 }
 
 // The same of row k, if it is a chan row in the set of name c.
-pub fn chan_adds(store: &mut [u8], rows: u8, n: u8, end: End, c: u8, k: u8) -> bool
+fn chan_adds(store: &mut [u8], rows: u8, n: u8, end: End, c: u8, k: u8) -> bool
     requires { ⌜ (storeSize ≤ length (now store)) × (rows ≤ rowLimit) × (n < rowLimit) × (k < rowLimit) ⌝ }
     requires { ⌜ EndLow end ⌝ }
     ensures { λ more. ⌜ Adds (chanRule (storeProgram rows (now (store .entry))) n end c k) (now (store .entry)) (now (store .exit)) more ⌝ }
