@@ -4,12 +4,11 @@
 use crate::reference::document::{Bind, Branch, Document, Form, Name, Row};
 
 /// The hardest of each kind that has no more than 160 rows and names.
-pub fn hardest() -> [(&'static str, Document); 6] {
+pub fn hardest() -> [(&'static str, Document); 5] {
     [
         ("a round for each row", unwinding(152, 0)),
         ("most rounds", unwinding(77, 25)),
         ("52 syncs share sets", sharing(25, 52, 52)),
-        ("syncs share receives", hearing(12, 20, 40, 42)),
         ("longest outcome", sharing(76, 1, 1)),
         ("functions take functions", takers(32)),
     ]
@@ -68,34 +67,6 @@ pub fn sharing(channels: usize, sends: usize, syncs: usize) -> Document {
     for _ in 0..syncs {
         writer.bind(Form::Sync { event });
         event = received;
-    }
-    writer.end(received)
-}
-
-/// Many receives on many channels, in `9 + 2 * channels + 2 * recvs + sends +
-/// syncs` rows: every channel is handed through one function and every receive
-/// through another, so that each sync may take any receive on any channel, and
-/// the sends, each the message of the next, are found one by one.
-pub fn hearing(channels: usize, recvs: usize, sends: usize, syncs: usize) -> Document {
-    let mut writer = Writer::default();
-    let same = writer.fun(|_, _, parameter| parameter);
-    let other = writer.fun(|_, _, parameter| parameter);
-    let each: Vec<Name> = (0..channels).map(|_| writer.bind(Form::Chan)).collect();
-    let channel = each
-        .into_iter()
-        .fold(same, |_, channel| writer.apply(same, channel));
-    let each: Vec<Name> = (0..recvs)
-        .map(|_| writer.bind(Form::Recv { channel }))
-        .collect();
-    let heard = each.into_iter().fold(other, |_, r| writer.apply(other, r));
-    let received = writer.bind(Form::Sync { event: heard });
-    let last = (0..sends).fold(channel, |message, _| {
-        writer.bind(Form::Send { channel, message })
-    });
-    writer.bind(Form::Sync { event: last });
-    writer.bind(Form::Sync { event: received });
-    for _ in 0..syncs {
-        writer.bind(Form::Sync { event: heard });
     }
     writer.end(received)
 }
