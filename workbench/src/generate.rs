@@ -17,7 +17,7 @@ pub use documents::{
     accepted_document, bare_document, claim_anything, claim_falsely, claim_truly, contested,
     crowded_document, least_document, loadable_document, loose_document, wide_document,
 };
-pub use hardest::{hardest, sharing, takers, unwinding};
+pub use hardest::{hardest, hearing, sharing, takers, unwinding};
 pub use limits::{chain, file_of_length, full_document};
 pub use program::program;
 pub use scaled::{dense, shared, workers};

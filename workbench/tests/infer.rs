@@ -40,7 +40,7 @@ fn inferred(document: &Document) -> Document {
 }
 
 /// The hardest programs, which load takes.
-fn hardest_documents() -> [Document; 5] {
+fn hardest_documents() -> [Document; 6] {
     hardest().map(|(name, document)| {
         let loaded = check::load(&check::write(&document));
         assert_eq!(loaded.as_ref(), Ok(&document), "{name}");

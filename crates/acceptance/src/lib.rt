@@ -7,8 +7,8 @@ ghost use Rattle.acceptance.specs.Accepting.{Accepts};
 pub fn accept(file: &[u8], store: &mut [u8]) -> JudgeAnswer
     ensures { λ a. ⌜ Accepts (now (file .entry)) (now (store .entry)) a (now (store .exit)) ⌝ }
 {
-    match checker::load(file, store) {
+    match call_load::load(file, store) {
         LoadAnswer::Refused(refusal) => JudgeAnswer::Refused(refusal),
-        LoadAnswer::Loaded(_) => checker::judge(store),
+        LoadAnswer::Loaded(_) => call_judge::judge(store),
     }
 }

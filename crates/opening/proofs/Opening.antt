@@ -5,6 +5,7 @@ use mathlib.Core.Bool.{Bool, true, false, not, _&&_}
 use mathlib.Core.Option.{none, some}
 use mathlib.Core.Path.{_≡_, refl, sym, ap, _∙_, subst}
 use lib.ListN.{length, take}
+use lib.Seq.{length-take-le}
 use lib.Dec.{ltb, eqb}
 use borrow.Author.Tests.{lt-ltb, le-ltb, ltb-false}
 use Rattle.program.specs.Each.{every}
@@ -16,7 +17,7 @@ use Rattle.format.specs.Refusals.{refusal, Result, refused, accepted}
 use Rattle.format.specs.Document.{Document}
 use Rattle.format.specs.Structure.{structureFault}
 use Rattle.calls.specs.Layout.{storeSize, decode}
-use Rattle.calls.specs.Calls.{isEmpty, unsound, openedFixed, opened}
+use Rattle.calls.specs.Calls.{Leaves, unaltered, isEmpty, unsound, openedFixed, opened}
 use Rattle.calls.specs.Canonical.{countRows, rowsSound, restZero, flagsSound, claimsSound, canonical}
 use Rattle.calls.proofs.Canonical.{sound-test}
 use Rattle.store.specs.Document.{storeDocument}
@@ -94,3 +95,15 @@ opens-long store n h = go (ltb (length store) storeSize) refl
     go : (b : Bool) → ltb (length store) storeSize ≡ b → storeSize ≤ length store
     go true e = let k = subst (λ (x : Result Document). OpenedIs x (take storeSize store) (Opened.Rows n)) (short-store store e) h in let z : _≡_ {A = ℕ} 0 1 = cc in absurd (omega arith)
     go false e = ltb-false (length store) storeSize e
+
+-- the fixed size of a store that opens, and its rows
+module _ (store : Bytes) (n : ℕ) (h : OpenedIs (opened store) (take storeSize store) (Opened.Rows n)) where
+  pub fixed-size : length (take storeSize store) ≡ storeSize
+  fixed-size = length-take-le storeSize store (opens-long store n h)
+
+  pub counted : n ≡ countRows rowLimit (take storeSize store)
+  counted = opens-is (take storeSize store) (opened store) n h .1
+
+-- what a call that only reads leaves
+pub as-it-was : {A : Type 0} {a b : A} {lent : Bytes} → a ≡ b → Leaves (unaltered b lent) a lent
+as-it-was e = record { answer-is = e; bytes-are = refl }

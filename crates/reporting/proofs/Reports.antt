@@ -4,7 +4,6 @@ use native.Mathlib.Omega.{arith}
 use mathlib.Core.List.{List, [], _∷_, _++_}
 use mathlib.Core.Path.{_≡_, refl, sym, ap, _∙_}
 use lib.ListN.{length, take, drop}
-use lib.Seq.{length-take-le}
 use borrow.Author.Tests.{lt-ltb, le-ltb}
 use Rattle.program.specs.Each.{nil, _&_}
 use Rattle.format.specs.declared.Reason.the-variants.{StoreTooShort, OutputTooShort}
@@ -21,7 +20,6 @@ use Rattle.calls.specs.declared.JudgeAnswer.{JudgeAnswer}
 use Rattle.calls.specs.declared.WriteAnswer.{WriteAnswer}
 use Rattle.calls.specs.Answers.{turnedBack, answered, refusalAnswer, loadAnswer, judgeAnswer}
 use Rattle.calls.specs.Layout.{storeSize, decode}
-use Rattle.calls.specs.Canonical.{countRows}
 use Rattle.calls.specs.Judging.{judgeDocument}
 use Rattle.calls.specs.Calls.{opened, load, judgeAnswered, judge}
 use Rattle.report.specs.Report.{refusedText, acceptedText, channelLines, judgedText, checkedText, report, reportLimit, LeavesReport, reported}
@@ -32,7 +30,7 @@ use Rattle.write_text.specs.Write.{Room, Wrote}
 use Rattle.write_text.proofs.Progress.{at-head}
 use Rattle.opening.specs.declared.Opened.{Opened}
 use Rattle.opening.specs.Opening.{OpenedIs}
-use Rattle.opening.proofs.Opening.{refused-is, opens-is, opens-long}
+use Rattle.opening.proofs.Opening.{refused-is, opens-is, counted}
 use Rattle.judging.proofs.Documents.{few-rows}
 use Rattle.channel_lines.proofs.Rows.{row-count}
 
@@ -79,14 +77,8 @@ module _ (store : Bytes) where
     closed-text = rw closed
 
   module _ (n : ℕ) (h : OpenedIs (opened store) fixed (Opened.Rows n)) where
-    pub fixed-size : length fixed ≡ storeSize
-    fixed-size = length-take-le storeSize store (opens-long store n h)
-
-    pub counted : n ≡ countRows rowLimit fixed
-    counted = opens-is fixed (opened store) n h .1
-
     few : length (decode fixed .rows) ≤ rowLimit
-    few = omega (arith, row-count n fixed counted, few-rows n fixed counted)
+    few = let e = counted store n h in omega (arith, row-count n fixed e, few-rows n fixed e)
 
     pub opened-room : (k : ℕ) → Room 0 (acceptedText k ++ channelLines (decode fixed))
     opened-room k = accepted-room (decode fixed) few k

@@ -55,7 +55,7 @@ fn put_file(file: &[u8], store: &mut [u8], out: &mut [u8]) -> usize
     requires { ⌜ storeSize ≤ length (now store) ⌝ }
     ensures { λ r. ⌜ FileReported (now (file .entry)) (now (store .entry)) (now (out .entry)) r (now (store .exit)) (now (out .exit)) ⌝ }
 {
-    match checker::load(file, store) {
+    match call_load::load(file, store) {
         LoadAnswer::Refused(refusal) => put_refused(out, 0, refusal),
         LoadAnswer::Loaded(_) => put_store(out, store),
     }

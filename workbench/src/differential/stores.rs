@@ -3,8 +3,8 @@
 use super::lent::Lent;
 use crate::checker::ffi;
 use crate::generate::{
-    accepted_document, claim_anything, full_document, loadable_document, loose_document, sharing,
-    takers, unwinding, widen, Random, Size, Tables,
+    accepted_document, claim_anything, full_document, hearing, loadable_document, loose_document,
+    sharing, takers, unwinding, widen, Random, Size, Tables,
 };
 use crate::layout::{encode, STORE_SIZE};
 use crate::reference::document::{Document, LAST_NUMBER};
@@ -81,12 +81,12 @@ fn long_document(random: &mut Random) -> Document {
 /// A program whose smallest tables are hard to find, of any size, with any
 /// tables that a store may hold.
 fn hardest_document(random: &mut Random) -> Document {
-    let mut document = match random.below(3) {
+    let mut count = || 1 + random.below(8);
+    let sizes = [count(), count(), count(), count()];
+    let mut document = match random.below(4) {
         0 => unwinding(random.below(16), random.below(6)),
-        1 => {
-            let mut count = || 1 + random.below(8);
-            sharing(count(), count(), count())
-        }
+        1 => sharing(sizes[0], sizes[1], sizes[2]),
+        2 => hearing(sizes[0], sizes[1], sizes[2], sizes[3]),
         _ => takers(1 + random.below(10)),
     };
     let mut tables = Tables::empty();

@@ -4,11 +4,12 @@
 use crate::reference::document::{Bind, Branch, Document, Form, Name, Row};
 
 /// The hardest of each kind that has no more than 160 rows and names.
-pub fn hardest() -> [(&'static str, Document); 5] {
+pub fn hardest() -> [(&'static str, Document); 6] {
     [
         ("a round for each row", unwinding(152, 0)),
         ("most rounds", unwinding(77, 25)),
         ("52 syncs share sets", sharing(25, 52, 52)),
+        ("42 syncs hear 20 receives", hearing(12, 20, 40, 42)),
         ("longest outcome", sharing(76, 1, 1)),
         ("functions take functions", takers(32)),
     ]
@@ -53,11 +54,7 @@ fn handed_up(writer: &mut Writer, hops: usize, left: Name, pair: Name) -> Name {
 /// are found one by one, and each may be made at each sync.
 pub fn sharing(channels: usize, sends: usize, syncs: usize) -> Document {
     let mut writer = Writer::default();
-    let same = writer.fun(|_, _, parameter| parameter);
-    let each: Vec<Name> = (0..channels).map(|_| writer.bind(Form::Chan)).collect();
-    let channel = each
-        .into_iter()
-        .fold(same, |_, channel| writer.apply(same, channel));
+    let channel = any_of(&mut writer, channels, || Form::Chan);
     let receive = writer.bind(Form::Recv { channel });
     let received = writer.bind(Form::Sync { event: receive });
     let last = (0..sends).fold(channel, |message, _| {
@@ -69,6 +66,34 @@ pub fn sharing(channels: usize, sends: usize, syncs: usize) -> Document {
         event = received;
     }
     writer.end(received)
+}
+
+/// Syncs that may make any of many receives, in `8 + 2 * channels + 2 * receives
+/// + sends + syncs` rows, with one name more. The channels and the receives are
+/// each handed through one function, so each receive may be made on any channel
+/// and at any sync; the sends are found one by one, as in `sharing`.
+pub fn hearing(channels: usize, receives: usize, sends: usize, syncs: usize) -> Document {
+    let mut writer = Writer::default();
+    let channel = any_of(&mut writer, channels, || Form::Chan);
+    let heard = any_of(&mut writer, receives, || Form::Recv { channel });
+    let received = writer.bind(Form::Sync { event: heard });
+    let last = (0..sends).fold(channel, |message, _| {
+        writer.bind(Form::Send { channel, message })
+    });
+    writer.bind(Form::Sync { event: last });
+    writer.bind(Form::Sync { event: received });
+    for _ in 0..syncs {
+        writer.bind(Form::Sync { event: heard });
+    }
+    writer.end(received)
+}
+
+/// A name that may be any of so many binds of a form: one function takes each.
+fn any_of(writer: &mut Writer, count: usize, form: impl Fn() -> Form) -> Name {
+    let same = writer.fun(|_, _, parameter| parameter);
+    let each: Vec<Name> = (0..count).map(|_| writer.bind(form())).collect();
+    each.into_iter()
+        .fold(same, |_, value| writer.apply(same, value))
 }
 
 /// Functions that take functions, in `4 * functions` rows, with `5 * functions -

@@ -2,7 +2,8 @@
 use native.Mathlib.Omega.{arith}
 use mathlib.Core.Path.{sym}
 use Rattle.write_text.proofs.Writing.{then, room-first, room-then}
-use Rattle.reporting.proofs.Reports.{refused-room, closed-line, closed-text, fixed-size, counted, opened-room, judged-line, judged-count, judged-refused, judged-accepted}
+use Rattle.opening.proofs.Opening.{fixed-size, counted}
+use Rattle.reporting.proofs.Reports.{refused-room, closed-line, closed-text, opened-room, judged-line, judged-count, judged-refused, judged-accepted}
 use borrow.Author.Needs.{needs}
 use Rattle.reporting.proofs.put_store.Statement.{statement}
 use Rattle.reporting.proofs.put_store.Tie as tie

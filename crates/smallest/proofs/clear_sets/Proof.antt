@@ -1,10 +1,10 @@
--- The loop's invariant: the sets are empty up to byte i. The measure is what is left of them.
+-- The loop's invariant: the sets are empty up to byte i. The measure is what is left of the store.
 use Prim.Native.Nat.{_+_, _≤_, _-_}
 use native.Mathlib.Omega.{arith}
 use mathlib.Core.Path.{_≡_, refl}
 use lib.ListN.{length, length-set}
 use borrow.Author.Needs.{needs}
-use Rattle.calls.specs.Layout.{rowsSize, claimsStart}
+use Rattle.calls.specs.Layout.{rowsSize, claimsStart, storeSize}
 use Rattle.smallest.proofs.Settling.{ClearedTo, cleared-none, cleared-more, cleared-all}
 use Rattle.smallest.proofs.clear_sets.Statement.{statement}
 use Rattle.smallest.proofs.clear_sets.Tie as tie
@@ -14,7 +14,7 @@ Inv-loop store₀ i₀ store i =
     (rowsSize ≤ i) × (i ≤ claimsStart) × (length store ≡ length store₀) × ClearedTo i store₀ store
 
 abbrev μ-loop : tie.MeasureT-loop
-μ-loop store₀ i₀ store i = claimsStart - i
+μ-loop store₀ i₀ store i = storeSize - i
 
 loop-holds : tie.Need-loop-holds Inv-loop μ-loop
 loop-holds c = (omega arith, omega arith, refl, cleared-none _)

@@ -1,3 +1,0 @@
--- Laws that the proofs of the calls share.
-pub mod Texts
-pub mod Judges
