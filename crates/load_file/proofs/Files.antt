@@ -20,7 +20,7 @@ use Rattle.format.specs.Structure.{structureFault}
 use Rattle.format.specs.Check.{checkStructure, checkAny, check}
 use Rattle.format.proofs.Files.{print-read}
 use Rattle.calls.specs.declared.LoadAnswer.{LoadAnswer}
-use Rattle.calls.specs.Layout.{storeSize, decode}
+use Rattle.calls.specs.Layout.{storeSize, encode, decode}
 use Rattle.calls.specs.Calls.{Leaves, counts, refilled, loaded, load}
 use Rattle.calls.specs.Canonical.{countRows}
 use Rattle.calls.proofs.Codec.{decode-encode}
@@ -50,13 +50,29 @@ module _ (s : Bytes) (d : Document) (ok : So (orderly d)) (held : Stored s d) wh
   pub store-document : (n : ℕ) → n ≤ rowLimit → n ≡ length (d .rows) → storeDocument n s ≡ d
   store-document n h e = head-is n s (e ∙ count-is) ∙ decoded
 
+-- ---- zeros at the head of bytes, of any number: of the store's the prover would write them out
+
+module _ (n : ℕ) (rest : Bytes) where
+  zeros-long : n ≤ length (replicate n 0 ++ rest)
+  zeros-long = rw (length-append (replicate n 0) rest, length-replicate {A = ℕ} n 0) (omega arith)
+
+  zeros-taken : take n (replicate n 0 ++ rest) ≡ replicate n 0
+  zeros-taken = take-at (replicate n 0) rest n (length-replicate {A = ℕ} n 0)
+
+  zeros-dropped : drop n (replicate n 0 ++ rest) ≡ rest
+  zeros-dropped = drop-at (replicate n 0) rest n (length-replicate {A = ℕ} n 0)
+
 -- ---- what load leaves
 
 -- of the lent bytes, only those past the fixed size count
+refilled-same : (s t fixed : Bytes) → drop storeSize s ≡ drop storeSize t → refilled s fixed ≡ refilled t fixed
+unfolding refilled
+refilled-same s t fixed e = ap (λ (rest : Bytes). fixed ++ rest) e
+
 same-past : (s t : Bytes) (x : Result Document) → drop storeSize s ≡ drop storeSize t → loaded s x ≡ loaded t x
-unfolding loaded refilled
-same-past s t (refused r) e = rw e
-same-past s t (accepted d) e = rw e
+unfolding loaded
+same-past s t (refused r) e = ap (λ (left : Bytes). record { answer = LoadAnswer.Refused r; bytes = left }) (refilled-same s t (replicate storeSize 0) e)
+same-past s t (accepted d) e = ap (λ (left : Bytes). record { answer = LoadAnswer.Loaded (counts d); bytes = left }) (refilled-same s t (encode d) e)
 
 pub too-short : (file store : Bytes) → length store < storeSize → Leaves (load file store) (LoadAnswer.Refused (refusal StoreTooShort 0)) store
 unfolding load
@@ -75,8 +91,8 @@ pub too-long : (file store : Bytes) {a : LoadAnswer} {left : Bytes} → byteLimi
 unfolding check
 too-long file store l h = rw (lt-ltb byteLimit (length file) l, check) h
 
-pub no-lines-stored : (store : Bytes) → Stored (replicate storeSize 0 ++ drop storeSize store) noLines
-no-lines-stored store = take-at (replicate storeSize 0) (drop storeSize store) storeSize (length-replicate {A = ℕ} storeSize 0) ∙ sym encode-none
+pub no-lines-stored : (store : Bytes) {left : Bytes} → left ≡ replicate storeSize 0 ++ drop storeSize store → Stored left noLines
+no-lines-stored store e = ap (take storeSize) e ∙ zeros-taken storeSize (drop storeSize store) ∙ sym encode-none
 
 -- ---- refusals 6 to 9 of a store that holds a document
 
@@ -115,7 +131,7 @@ module _ (file store : Bytes) (left : Bytes) (short : length file ≤ byteLimit)
   check-is = rw (le-ltb byteLimit (length file) short, check)
 
   past-same : Past cleared left → drop storeSize left ≡ drop storeSize store
-  past-same h = h .rest-stays ∙ drop-at (replicate storeSize 0) (drop storeSize store) storeSize (length-replicate {A = ℕ} storeSize 0)
+  past-same h = h .rest-stays ∙ zeros-dropped storeSize (drop storeSize store)
 
   pub lines-refused : (r : Refusal) {a : LoadAnswer} {next : Bytes} → FileIs (readFile file) cleared (FileRead.Refused r) left → Leaves (loaded left (refused r)) a next
       → Leaves (loaded store (check file)) a next
@@ -152,5 +168,5 @@ rows-small x p {store} {left} h = go x (h .answers)
         let same : p ≡ k .progress = cc in
         subst (λ (q : Progress). q .rows ≤ rowLimit) (sym same) (subst (λ (n : ℕ). n ≤ rowLimit) (k .matches .rows-are) (k .matches .rows-fit))
 
-pub cleared-long : (store : Bytes) → storeSize ≤ length (replicate storeSize 0 ++ drop storeSize store)
-cleared-long store = rw (length-append (replicate storeSize 0) (drop storeSize store), length-replicate {A = ℕ} storeSize 0) (omega arith)
+pub cleared-long : (store : Bytes) {left : Bytes} → left ≡ replicate storeSize 0 ++ drop storeSize store → storeSize ≤ length left
+cleared-long store e = subst (λ (l : Bytes). storeSize ≤ length l) (sym e) (zeros-long storeSize (drop storeSize store))

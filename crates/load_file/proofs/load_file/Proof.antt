@@ -18,15 +18,11 @@ clear-requires : tie.Need-clear-requires
 clear-requires c κs = search needs
 
 load-lines-requires : tie.Need-load-lines-requires
-load-lines-requires c κs = (
-  rw (c .before .before .before .clear .ensures) (cleared-long
-      (now (c .before .before .before .before .before .before .before .before .args .store))),
-  (
-    rw (c .before .before .before .clear .ensures) (no-lines-stored
-        (now (c .before .before .before .before .before .before .before .before .args .store))),
-    c .before .before .before .before .before .if1 .left,
-  ),
-)
+load-lines-requires c κs =
+    let c3 = c .before .before .before in
+    let store = now (c3 .before .before .before .before .before .args .store) in
+    let emptied = c3 .clear .ensures in
+    (cleared-long store emptied, (no-lines-stored store emptied, c3 .before .before .if1 .left))
 
 enum-known-refusal : tie.Need-enum-known-refusal
 enum-known-refusal c = search needs
@@ -39,11 +35,10 @@ enum-known-p c = search needs
 
 finish-requires : tie.Need-finish-requires
 finish-requires c κs =
-    let c8 = c .before .before .before .before .before .before .before .before in (
-      rw (c .before .before .before .before .before .before .load-lines .ensures .past .length-stays, c8 .before .before .clear .ensures)
-          (cleared-long (now (c8 .before .before .before .before .before .before .before .args .store))),
-      rows-small _ _
-          (rw (c .before .before .p .given .1) at (c .before .before .before .before .before .before .load-lines .ensures)),
+    let c6 = c .before .before .before .before .before .before in
+    let c10 = c6 .before .before .before .before in (
+      rw (c6 .load-lines .ensures .past .length-stays) (cleared-long (now (c10 .before .before .before .before .before .args .store)) (c10 .clear .ensures)),
+      rows-small _ _ (rw (c .before .before .p .given .1) at (c6 .load-lines .ensures)),
     )
 
 same-length-2 : tie.Need-same-length-2
