@@ -4,7 +4,7 @@ use pointers::larger;
 use program::Form;
 use program::Row;
 use store::Store;
-use store::row_at;
+use stored_rows::row_at;
 ghost use mathlib.Core.Path.{_≡_};
 ghost use Prim.Native.Nat.{_+_, _*_, _≤_};
 ghost use lib.ListN.{length, drop, take};

@@ -1,7 +1,7 @@
 // The rows of the program in a store, and the forms that they hold.
 use program::Form;
 use program::Row;
-use store::row_at;
+use stored_rows::row_at;
 ghost use mathlib.Core.Path.{_≡_};
 ghost use Rattle.program.specs.Program.{rowAt, chanRow};
 ghost use Rattle.store.specs.Rows.{storeProgram};

@@ -4,7 +4,7 @@ use few::binders_of;
 use few::pointers_of;
 use seen::with_few;
 use store::NO_ROW;
-use store::row_at;
+use stored_rows::row_at;
 ghost use mathlib.Core.Path.{_≡_};
 ghost use mathlib.Core.Bool.{not, _&&_};
 ghost use mathlib.Core.List.{List};

@@ -34,7 +34,7 @@ pub fn row_above(raw: RawRow) -> bool
     if Store::ROWS <= raw.rest as usize {
         return true;
     }
-    let count = store::arity(kind);
+    let count = kinds::arity(kind);
     let numbers = [raw.a, raw.b, raw.c, raw.d, raw.e];
     numbers_above(&numbers, count)
 }
@@ -74,7 +74,7 @@ pub fn row_of(raw: RawRow) -> Row
     if kind == 1 {
         return Row::Result(name);
     }
-    let form = store::form_of(
+    let form = stored_rows::form_of(
         kind,
         low(raw.a),
         low(raw.b),

@@ -108,7 +108,7 @@ pub fn read_form(s: &[u8], at: usize) -> FormRead
     let KindRead::Found(kind, p) = read_kind(s, at) else {
         return FormRead::Missing;
     };
-    let count = store::arity(kind);
+    let count = kinds::arity(kind);
     let NumbersRead::Found(numbers, q) = read_numbers(s, p, count) else {
         return FormRead::Missing;
     };

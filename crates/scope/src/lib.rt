@@ -3,7 +3,7 @@ use program::Form;
 use program::Row;
 use store::NO_ROW;
 use store::Store;
-use store::row_at;
+use stored_rows::row_at;
 ghost use mathlib.Core.Path.{_≡_};
 ghost use Prim.Native.Nat.{_+_, _*_, _-_, _<_, min};
 ghost use Rattle.format.specs.Scope.{withName, useFault, rowFault, formFault, scopeFault};

@@ -8,7 +8,7 @@ use Rattle.program.specs.Program.{Program}
 use Rattle.format.specs.Limits.{rowLimit}
 use Rattle.format.specs.Text.{Bytes}
 use Rattle.calls.specs.Layout.{rowSize, rowOf, counting}
-use Rattle.store.specs.declared.rows.Cells.{Cells}
+use Rattle.store.specs.declared.Cells.{Cells}
 
 unfoldable pub storeRow : Bytes → ℕ → Row
 storeRow s r = rowOf (take rowSize (drop (r * rowSize) s))

@@ -1,18 +1,9 @@
-// The store of bytes that a file is loaded into: its layout, a new one, and its rows.
+// The store of bytes that a file is loaded into: its layout, a new one, and the bytes of a row.
 ghost use mathlib.Core.Path.{_≡_};
 ghost use Prim.Native.Nat.{_≤_};
 ghost use mathlib.Core.List.{_++_};
 ghost use lib.ListN.{length, drop, replicate};
 ghost use Rattle.calls.specs.Layout.{storeSize};
-
-pub mod kinds; // kinds.rt: the kinds of the forms
-pub mod rows; // rows.rt: a row of the store, read and written
-
-pub use kinds::arity;
-pub use kinds::form_place;
-pub use rows::form_of;
-pub use rows::put_row;
-pub use rows::row_at;
 
 // No row: an answer where there is none.
 pub const NO_ROW: u8 = Store::ROWS as u8;
@@ -50,6 +41,18 @@ impl Store {
             bytes: [0; Self::SIZE],
         }
     }
+}
+
+// The bytes of a row.
+pub struct Cells {
+    pub kind: u8,
+    pub name: u8,
+    pub rest: u8,
+    pub a: u8,
+    pub b: u8,
+    pub c: u8,
+    pub d: u8,
+    pub e: u8,
 }
 
 // Sets the bytes of a store, at the head of a slice, to 0.

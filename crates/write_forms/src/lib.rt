@@ -1,6 +1,6 @@
 // Forms, written into a slice at a position by their kind and their numbers. What does not fit the slice is not written, and counts all the same.
-use store::arity;
-use store::form_place;
+use kinds::arity;
+use kinds::form_place;
 ghost use mathlib.Core.Path.{_≡_};
 ghost use Prim.Native.Nat.{_≤_, _-_};
 ghost use lib.ListN.{length, take, drop};

@@ -12,7 +12,7 @@ use Rattle.scope.proofs.+scope_form+scope_row.Lts-scope_form as scope-f
 use Rattle.scope.proofs.scope_row.Reads as scope-row
 use Rattle.scope.proofs.scope_row.Kinds as scope-row-kinds
 use Rattle.scope.proofs.+scope_form+scope_row.Lts-scope_row as scope-row-lts
-use Rattle.store.proofs.rows.row_at.Reads as row-at-reads
+use Rattle.stored_rows.proofs.row_at.Reads as row-at-reads
 use Rattle.scope.proofs.least.Reads as least-reads
 use Rattle.scope.proofs.use_of.Reads as use-of-reads
 use Rattle.scope.proofs.with_name.Reads as with-name-reads

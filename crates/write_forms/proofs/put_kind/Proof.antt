@@ -1,8 +1,8 @@
 -- The word is cut out of the table at the place of its kind (`word-is`), which lies inside it (`part-inside`).
 use native.Mathlib.Omega.{arith}
 use Rattle.format.specs.Text.{ascii}
-use Rattle.store.specs.Kinds.{formPlace}
-use Rattle.store.proofs.Counts.{place-below}
+use Rattle.kinds.specs.Kinds.{formPlace}
+use Rattle.kinds.proofs.Counts.{place-below}
 use Rattle.write_forms.proofs.Words.{part-inside, word-room, word-wrote}
 use borrow.Author.Needs.{needs}
 use Rattle.write_forms.proofs.put_kind.Statement.{statement}

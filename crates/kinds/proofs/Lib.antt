@@ -1,0 +1,2 @@
+-- A law that the proofs of the functions share.
+pub mod Counts

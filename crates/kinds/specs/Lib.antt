@@ -1,0 +1,2 @@
+-- The kinds of forms.
+pub mod Kinds
