@@ -132,7 +132,7 @@ unfolding opened
 opened-loaded d w rest =
     let n : length (encode d) ≡ storeSize = encode-length d (orderly-of d w) in
     let l : storeSize ≤ length (encode d ++ rest) = omega (arith, length-append (encode d) rest) in
-    rw (le-ltb (length (encode d ++ rest)) storeSize l, opened) (rw (take-at (encode d) rest storeSize n) (opened-encode d w))
+    rw (le-ltb (length (encode d ++ rest)) storeSize l, opened) (ap openedFixed (take-at (encode d) rest storeSize n) ∙ opened-encode d w)
 
 -- and only such a store does
 pub record Opened (store : Bytes) (d : Document) : Type 0 where

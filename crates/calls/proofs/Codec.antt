@@ -26,7 +26,7 @@ use Rattle.format.specs.Print.{rowLines, linesOf}
 use Rattle.format.specs.Read.{present, rising, lineNumbers, aboveLimit}
 use Rattle.format.specs.WellFormed.{entriesRise, orderly, wellFormed}
 use Rattle.format.specs.Refusals.{accepted}
-use Rattle.calls.specs.Layout.{rowsSize, setsSize, storeSize, counting, padded, rowBytes, setsBytes, claimCode, encode, decode, same}
+use Rattle.calls.specs.Layout.{rowsSize, setsSize, storeSize, counting, padded, rowBytes, setsBytes, claimCode, encode, decodeRows, decodeSets, decodeClaims, decode, same}
 use Rattle.calls.specs.Calls.{unsound, isEmpty, openedFixed}
 use Rattle.calls.proofs.Codec.Sparse.{counting-length}
 use Rattle.calls.proofs.Codec.Rows.{Byte, rows-fit, rows-part-length, rows-part-back, rows-range, first-kind}
@@ -79,6 +79,15 @@ unfolding every
 every-byte [] nil = refl
 every-byte (b ∷ bs) (h & hs) = and-intro (lt-ltb b 256 h) (every-byte bs hs)
 
+-- the document of four parts, each of which is read back
+parts-back : (rows flows comms claims : Bytes) (d : Document) → length rows ≡ rowsSize → length flows ≡ setsSize → length comms ≡ setsSize
+    → decodeRows rowLimit (rows ++ (flows ++ (comms ++ claims))) ≡ d .rows → decodeSets rowLimit 0 (flows ++ (comms ++ claims)) ≡ d .flows
+    → decodeSets rowLimit 0 (comms ++ claims) ≡ d .comms → decodeClaims 0 claims ≡ d .claims → decode (rows ++ (flows ++ (comms ++ claims))) ≡ d
+unfolding decode
+parts-back rows flows comms claims d l m n r f c k =
+    rw (drop-at rows (flows ++ (comms ++ claims)) rowsSize l, drop-at flows (comms ++ claims) setsSize m, drop-at comms claims setsSize n)
+    λ i. record { rows = r i; flows = f i; comms = c i; claims = k i }
+
 module _ (d : Document) (ok : So (orderly d)) where
   pub all-fit : length (d .rows) ≤ rowLimit
   all-fit = let h = rows-fit rowLimit 0 (d .rows) (omega arith) (facts d ok .rows-low) in omega arith
@@ -94,24 +103,18 @@ module _ (d : Document) (ok : So (orderly d)) where
 
   -- what is written is read back
   pub decode-encode : decode (encode d) ≡ d
-  unfolding encode decode lineNumbers
+  unfolding encode lineNumbers
   decode-encode =
       let f = facts d ok in
+      let rows = padded rowsSize (collect rowBytes (d .rows)) in
       let claims = counting rowLimit 0 (claimCode (d .claims)) in
       let comms = setsBytes (d .comms) ++ claims in
       let flows = setsBytes (d .flows) ++ comms in
-      let rows = padded rowsSize (collect rowBytes (d .rows)) in
-      rw (
-        drop-at rows flows rowsSize rows-bytes-length,
-        drop-at (setsBytes (d .flows)) comms setsSize (sets-bytes-length (d .flows)),
-        drop-at (setsBytes (d .comms)) claims setsSize (sets-bytes-length (d .comms)),
-      )
-      λ i. record {
-        rows = rows-part-back rowLimit (d .rows) all-fit flows i;
-        flows = sets-bytes-back (d .flows) comms (f .flows-low) (f .flows-rise) i;
-        comms = sets-bytes-back (d .comms) claims (f .comms-low) (f .comms-rise) i;
-        claims = claims-back rowLimit (d .claims) (each-imp (λ c l. each-at l (here refl)) (f .claims-low)) (f .claims-rise) i;
-      }
+      parts-back rows (setsBytes (d .flows)) (setsBytes (d .comms)) claims d rows-bytes-length (sets-bytes-length (d .flows)) (sets-bytes-length (d .comms))
+      (rows-part-back rowLimit (d .rows) all-fit flows)
+      (sets-bytes-back (d .flows) comms (f .flows-low) (f .flows-rise))
+      (sets-bytes-back (d .comms) claims (f .comms-low) (f .comms-rise))
+      (claims-back rowLimit (d .claims) (each-imp (λ c l. each-at l (here refl)) (f .claims-low)) (f .claims-rise))
 
   -- every number of the store is a byte
   pub byte-range : So (every (λ b. ltb b 256) (encode d))
