@@ -196,7 +196,7 @@ encode-smallest d = rw (entries-flags (smallestFlow (d .rows)), entries-flags (s
 module _ (store : Bytes) (d : Document) (e : opened store ≡ accepted d) where
   infer-opened : infer store ≡ record { answer = LoadAnswer.Loaded (counts (smallestDocument d)); bytes = encode (smallestDocument d) ++ drop storeSize store }
   unfolding infer inferred refilled
-  infer-opened = rw e
+  infer-opened = ap (inferred store) e
 
   well-opened : So (wellFormed (smallestDocument d))
   well-opened = smallest-well d (opened-is store d e .well)
@@ -256,7 +256,7 @@ module _ (store : Bytes) (d : Document) (e : opened store ≡ accepted d) where
 -- a store that does not open stays as it was
 infer-refused : (store : Bytes) (r : Refusal) → opened store ≡ refused r → infer store ≡ record { answer = LoadAnswer.Refused r; bytes = store }
 unfolding infer inferred
-infer-refused store r e = rw e
+infer-refused store r e = ap (inferred store) e
 
 -- the lines of the smallest tables are not empty
 lines-present : (t : Table) → Each (λ e. So (present (e .members))) (entriesOf t)
@@ -283,9 +283,11 @@ module _ (store : Bytes) where
     where
       go : (x : Result Document) → opened store ≡ x → InferIs store (loadAnswer (infer store .answer))
       go (refused r) e =
-          rw (infer-refused store r e) (unfold loadAnswer in InferIs.closed (closed-is store r e) (ap (λ (o : Outcome LoadAnswer). o .bytes) (infer-refused store r e)))
+          subst (λ (o : Outcome LoadAnswer). InferIs store (loadAnswer (o .answer))) (sym (infer-refused store r e))
+          (unfold loadAnswer in InferIs.closed (closed-is store r e) (ap (λ (o : Outcome LoadAnswer). o .bytes) (infer-refused store r e)))
       go (accepted d) e =
-          rw (infer-opened store d e) (unfold loadAnswer counts in InferIs.infers d (smallestDocument d) (opened-iff store d .0 e) (inferred-is store d e))
+          subst (λ (o : Outcome LoadAnswer). InferIs store (loadAnswer (o .answer))) (sym (infer-opened store d e))
+          (unfold loadAnswer counts in InferIs.infers d (smallestDocument d) (opened-iff store d .0 e) (inferred-is store d e))
 
   -- the outcome is its own outcome
   pub infer-twice : infer (infer store .bytes) ≡ infer store
@@ -302,7 +304,9 @@ module _ (store : Bytes) where
           let size : length (encode d′) ≡ storeSize = encode-length d′ (orderly-of d′ (well-opened store d e)) in
           let rest : drop storeSize (infer store .bytes) ≡ drop storeSize store = ap (λ (o : Outcome LoadAnswer). drop storeSize (o .bytes)) o
           ∙ drop-at (encode d′) (drop storeSize store) storeSize size in
-          infer-opened (infer store .bytes) d′ (opened-again store d e) ∙ rw (again d, rest) (sym o)
+          let made : Document → Bytes → Outcome LoadAnswer = λ x past. record { answer = LoadAnswer.Loaded (counts x); bytes = encode x ++ past } in
+          infer-opened (infer store .bytes) d′ (opened-again store d e)
+          ∙ ap (λ (x : Document). made x (drop storeSize (infer store .bytes))) (again d) ∙ ap (made d′) rest ∙ sym o
 
   -- "Judge never answers 10 on the outcome"
   pub never-10 : (line : ℕ) → judgeAnswer (judge (infer store .bytes)) ≢ turnedBack 10 line
