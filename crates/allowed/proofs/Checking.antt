@@ -27,7 +27,7 @@ use Rattle.store.specs.Document.{storeDocument}
 use Rattle.store.proofs.Document.{rows-are, flows-are, comms-are, claims-are}
 use Rattle.store.proofs.Claims.{claimsOn, claims-next}
 use Rattle.allowed.specs.declared.Lines.the-variants.{All, Failing}
-use Rattle.pointers.specs.Numbers.{flag, Tells}
+use Rattle.seen.specs.Flags.{flag, Tells}
 use Rattle.allowed.specs.Lines.{marked, setAt, entryMarked, claimMarked, lineCode, checked, lineOr}
 
 -- ---- what checking finds

@@ -27,9 +27,9 @@ use Rattle.calls.proofs.Codec.Sparse.{either}
 use Rattle.store.specs.Rows.{storeRow, storeProgram}
 use Rattle.store.proofs.Laws.{program-length, row-at-program}
 use Rattle.store.proofs.Claims.{part-inside, part-past}
-use Rattle.pointers.specs.Numbers.{flag, Tells}
+use Rattle.seen.specs.Flags.{flag, Tells}
 use Rattle.allowed.specs.Lines.{isValueRow, isChanRow, marked, memberCode, setCode, setAt, entryMarked, lineCode}
-use Rattle.pointers.proofs.Marking.{zeros, tells-set}
+use Rattle.seen.proofs.Marking.{zeros, tells-set}
 
 -- ---- flags of the first rows
 

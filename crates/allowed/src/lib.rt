@@ -1,8 +1,8 @@
 // Refusal 9: the first flow, comm or claim line that names what it may not.
-use pointers::bound;
-use pointers::larger;
+use binders::bound;
 use program::Form;
 use program::Row;
+use seen::larger;
 use store::Store;
 use store::row_at;
 ghost use mathlib.Core.Path.{_≡_};
@@ -14,7 +14,7 @@ ghost use Rattle.format.specs.Structure.{memberAllowed, notAllowed};
 ghost use Rattle.calls.specs.Layout.{memberLimit, storeSize, decodeSets, decodeClaims, commsStart, claimsStart};
 ghost use Rattle.store.specs.Rows.{storeProgram};
 ghost use Rattle.store.specs.Document.{storeDocument};
-ghost use Rattle.pointers.specs.Numbers.{flag, Tells};
+ghost use Rattle.seen.specs.Flags.{flag, Tells};
 ghost use Rattle.allowed.specs.Lines.{isValueRow, isChanRow, memberCode, setCode, lineCode, setAt, entryMarked, claimMarked, checked, lineOr};
 
 // 1 if a row of this form is a value row.

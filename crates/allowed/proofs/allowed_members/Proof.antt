@@ -8,7 +8,7 @@ use Rattle.format.specs.Structure.{memberAllowed}
 use Rattle.calls.specs.Layout.{memberLimit}
 use Rattle.store.specs.Rows.{storeProgram}
 use Rattle.allowed.specs.Lines.{isValueRow}
-use Rattle.pointers.specs.Numbers.{flag, Tells}
+use Rattle.seen.specs.Flags.{flag, Tells}
 use Rattle.allowed.proofs.Sets.{members-none, members-more}
 use Rattle.allowed.proofs.allowed_members.Statement.{statement}
 use Rattle.allowed.proofs.allowed_members.Tie as tie

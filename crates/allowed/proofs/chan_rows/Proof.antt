@@ -8,7 +8,7 @@ use Rattle.program.specs.Program.{chanRow}
 use Rattle.format.specs.Limits.{rowLimit}
 use Rattle.store.specs.Rows.{storeProgram}
 use Rattle.allowed.specs.Lines.{isChanRow}
-use Rattle.pointers.specs.Numbers.{flag, Tells}
+use Rattle.seen.specs.Flags.{flag, Tells}
 use Rattle.allowed.proofs.Sets.{chans-none, chans-more}
 use Rattle.allowed.proofs.chan_rows.Statement.{statement}
 use Rattle.allowed.proofs.chan_rows.Tie as tie
