@@ -7,10 +7,10 @@ use lib.ListN.{drop}
 use borrow.Author.Needs.{needs}
 use Rattle.format.specs.Limits.{rowLimit}
 use Rattle.calls.specs.Layout.{decodeSets}
-use Rattle.allowed.specs.Lines.{entryMarked, checked}
-use Rattle.allowed.proofs.Checking.{setsOn, sets-start, sets-none, sets-failing, sets-passing, sets-end}
-use Rattle.allowed.proofs.check_sets.Statement.{statement}
-use Rattle.allowed.proofs.check_sets.Tie as tie
+use Rattle.allowed_lines.specs.Lines.{entryMarked, checked}
+use Rattle.allowed_lines.proofs.Checking.{setsOn, sets-start, sets-none, sets-failing, sets-passing, sets-end}
+use Rattle.allowed_lines.proofs.check_sets.Statement.{statement}
+use Rattle.allowed_lines.proofs.check_sets.Tie as tie
 
 abbrev Inv-loop : tie.InvT-loop
 Inv-loop store base line keys members next₀ n₀ next n =

@@ -7,11 +7,11 @@ use borrow.Author.Needs.{needs}
 use Rattle.program.specs.Program.{chanRow}
 use Rattle.format.specs.Limits.{rowLimit}
 use Rattle.store.specs.Rows.{storeProgram}
-use Rattle.allowed.specs.Lines.{isChanRow}
 use Rattle.seen.specs.Flags.{flag, Tells}
-use Rattle.allowed.proofs.Sets.{chans-none, chans-more}
-use Rattle.allowed.proofs.chan_rows.Statement.{statement}
-use Rattle.allowed.proofs.chan_rows.Tie as tie
+use Rattle.allowed_lines.specs.Lines.{isChanRow}
+use Rattle.allowed_lines.proofs.Sets.{chans-none, chans-more}
+use Rattle.allowed_lines.proofs.chan_rows.Statement.{statement}
+use Rattle.allowed_lines.proofs.chan_rows.Tie as tie
 
 abbrev Inv-loop : tie.InvT-loop
 Inv-loop store rows chans₀ r₀ chans r =

@@ -5,10 +5,10 @@ use native.Mathlib.Omega.{arith}
 use mathlib.Core.Path.{_≡_, ap, _∙_}
 use borrow.Author.Needs.{needs}
 use Rattle.calls.specs.Layout.{memberLimit}
-use Rattle.allowed.specs.Lines.{setCode, setAt}
-use Rattle.allowed.proofs.Sets.{membersOn, set-start, set-step, set-end}
-use Rattle.allowed.proofs.set_code.Statement.{statement}
-use Rattle.allowed.proofs.set_code.Tie as tie
+use Rattle.allowed_lines.specs.Lines.{setCode, setAt}
+use Rattle.allowed_lines.proofs.Sets.{membersOn, set-start, set-step, set-end}
+use Rattle.allowed_lines.proofs.set_code.Statement.{statement}
+use Rattle.allowed_lines.proofs.set_code.Tie as tie
 
 abbrev Inv-loop : tie.InvT-loop
 Inv-loop store at members code₀ m₀ code m =

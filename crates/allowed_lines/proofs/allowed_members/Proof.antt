@@ -7,11 +7,11 @@ use borrow.Author.Needs.{needs}
 use Rattle.format.specs.Structure.{memberAllowed}
 use Rattle.calls.specs.Layout.{memberLimit}
 use Rattle.store.specs.Rows.{storeProgram}
-use Rattle.allowed.specs.Lines.{isValueRow}
 use Rattle.seen.specs.Flags.{flag, Tells}
-use Rattle.allowed.proofs.Sets.{members-none, members-more}
-use Rattle.allowed.proofs.allowed_members.Statement.{statement}
-use Rattle.allowed.proofs.allowed_members.Tie as tie
+use Rattle.allowed_lines.specs.Lines.{isValueRow}
+use Rattle.allowed_lines.proofs.Sets.{members-none, members-more}
+use Rattle.allowed_lines.proofs.allowed_members.Statement.{statement}
+use Rattle.allowed_lines.proofs.allowed_members.Tie as tie
 
 abbrev Inv-loop : tie.InvT-loop
 Inv-loop store rows members₀ r₀ members r =

@@ -2,9 +2,9 @@
 use mathlib.Core.Path.{sym, _∙_}
 use borrow.Author.Tests.{ne-eqb}
 use borrow.Author.Needs.{needs}
-use Rattle.allowed.proofs.Sets.{code-other, code-key}
-use Rattle.allowed.proofs.line_code.Statement.{statement}
-use Rattle.allowed.proofs.line_code.Tie as tie
+use Rattle.allowed_lines.proofs.Sets.{code-other, code-key}
+use Rattle.allowed_lines.proofs.line_code.Statement.{statement}
+use Rattle.allowed_lines.proofs.line_code.Tie as tie
 
 mul-at : tie.Need-mul-at
 mul-at c = search needs

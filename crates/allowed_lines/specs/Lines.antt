@@ -2,7 +2,6 @@
 use Prim.Native.Nat.{ℕ, _+_, max}
 use mathlib.Core.Bool.{Bool, false, not, _&&_}
 use mathlib.Core.List.{List, [], _∷_}
-use mathlib.Core.Option.{Option, none, some}
 use lib.ListN.{take, drop}
 use lib.Dec.{eqb}
 use Rattle.program.specs.declared.Row.{Row}
@@ -12,8 +11,8 @@ use Rattle.program.specs.Program.{isValue, isChan}
 use Rattle.format.specs.Text.{Bytes, byteAt}
 use Rattle.format.specs.Document.{Entry, Claim}
 use Rattle.calls.specs.Layout.{memberLimit, membersFrom}
-use Rattle.allowed.specs.declared.Lines.{Lines}
-use Rattle.allowed.specs.declared.Lines.the-variants.{All, Failing}
+use Rattle.allowed_lines.specs.declared.Lines.{Lines}
+use Rattle.allowed_lines.specs.declared.Lines.the-variants.{All, Failing}
 
 abbrev pub isValueRow : Row → Bool
 isValueRow (Row.Result n) = false
@@ -55,8 +54,3 @@ lineCode keys members n (m ∷ ms) = pick (entryMarked keys members (record { ke
 unfoldable pub checked : {A : Type 0} → (A → Bool) → ℕ → List A → Lines
 checked ok line [] = All line
 checked ok line (x ∷ xs) = pick (ok x) (checked ok (line + 1) xs) (Failing line)
-
--- a line, or 0, which is no line's number
-abbrev pub lineOr : Option ℕ → ℕ
-lineOr none = 0
-lineOr (some line) = line

@@ -28,8 +28,8 @@ use Rattle.store.specs.Rows.{storeRow, storeProgram}
 use Rattle.store.proofs.Laws.{program-length, row-at-program}
 use Rattle.store.proofs.Claims.{part-inside, part-past}
 use Rattle.seen.specs.Flags.{flag, Tells}
-use Rattle.allowed.specs.Lines.{isValueRow, isChanRow, marked, memberCode, setCode, setAt, entryMarked, lineCode}
 use Rattle.seen.proofs.Marking.{zeros, tells-set}
+use Rattle.allowed_lines.specs.Lines.{isValueRow, isChanRow, marked, memberCode, setCode, setAt, entryMarked, lineCode}
 
 -- ---- flags of the first rows
 

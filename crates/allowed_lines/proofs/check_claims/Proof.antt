@@ -8,10 +8,10 @@ use borrow.Author.Needs.{needs}
 use Rattle.format.specs.Limits.{rowLimit}
 use Rattle.calls.specs.Layout.{decodeClaims, claimsStart}
 use Rattle.store.proofs.Claims.{claimsOn}
-use Rattle.allowed.specs.Lines.{claimMarked, checked}
-use Rattle.allowed.proofs.Checking.{claims-start, claims-none, claims-failing, claims-passing, claims-end}
-use Rattle.allowed.proofs.check_claims.Statement.{statement}
-use Rattle.allowed.proofs.check_claims.Tie as tie
+use Rattle.allowed_lines.specs.Lines.{claimMarked, checked}
+use Rattle.allowed_lines.proofs.Checking.{claims-start, claims-none, claims-failing, claims-passing, claims-end}
+use Rattle.allowed_lines.proofs.check_claims.Statement.{statement}
+use Rattle.allowed_lines.proofs.check_claims.Tie as tie
 
 abbrev Inv-loop : tie.InvT-loop
 Inv-loop store line keys next₀ c₀ next c =

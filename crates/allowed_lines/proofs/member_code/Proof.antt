@@ -1,7 +1,7 @@
 -- `member_code` meets its contract: each test of `memberCode` is a branch.
 use borrow.Author.Tests.{ne-eqb}
-use Rattle.allowed.proofs.member_code.Statement.{statement}
-use Rattle.allowed.proofs.member_code.Tie as tie
+use Rattle.allowed_lines.proofs.member_code.Statement.{statement}
+use Rattle.allowed_lines.proofs.member_code.Tie as tie
 
 returns : tie.Need-returns
 returns c = rw (c .if1 .taken)
