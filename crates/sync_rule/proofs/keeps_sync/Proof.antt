@@ -1,8 +1,8 @@
 -- `keeps_sync` meets its contract: its send rows and its recv rows are tested apart, the recv rows by the set of the channels that pass.
 use borrow.Author.Needs.{needs}
-use Rattle.flow.proofs.Keeping.{sync-recvs, sync-fails}
-use Rattle.flow.proofs.keeps_sync.Statement.{statement}
-use Rattle.flow.proofs.keeps_sync.Tie as tie
+use Rattle.sync_rule.proofs.Syncs.{sync-recvs, sync-fails}
+use Rattle.sync_rule.proofs.keeps_sync.Statement.{statement}
+use Rattle.sync_rule.proofs.keeps_sync.Tie as tie
 
 flow-set-requires : tie.Need-flow-set-requires
 flow-set-requires c κs = search needs

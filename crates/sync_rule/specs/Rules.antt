@@ -1,4 +1,4 @@
--- What a sync asks of each row in its set, and the answer: the smallest row whose rule fails.
+-- What a sync asks of each row in its set.
 use Prim.Native.Nat.{ℕ}
 use mathlib.Core.Bool.{Bool, _&&_}
 use Rattle.program.specs.Maybe.{when}

@@ -1,8 +1,8 @@
 -- `keeps_fun` meets its contract: the row is not in the first set, or it is, and the second set decides.
 use borrow.Author.Needs.{needs}
 use Rattle.sets.proofs.Tests.{and-taken, and-left}
-use Rattle.flow.proofs.keeps_fun.Statement.{statement}
-use Rattle.flow.proofs.keeps_fun.Tie as tie
+use Rattle.form_rule.proofs.keeps_fun.Statement.{statement}
+use Rattle.form_rule.proofs.keeps_fun.Tie as tie
 
 flow-set-requires : tie.Need-flow-set-requires
 flow-set-requires c κs = search needs

@@ -4,10 +4,10 @@ use borrow.Author.Needs.{needs}
 use Rattle.program.specs.Flow.{sendRule, recvRule, keepsForm}
 use Rattle.channel_asks.specs.Channels.{sendTest}
 use Rattle.asks.specs.Asks.{Names, asks}
-use Rattle.flow.specs.Rules.{recvTest, syncTest}
-use Rattle.flow.proofs.Keeping.{value-keeps}
-use Rattle.flow.proofs.keeps_form.Statement.{statement}
-use Rattle.flow.proofs.keeps_form.Tie as tie
+use Rattle.sync_rule.specs.Rules.{recvTest, syncTest}
+use Rattle.form_rule.proofs.Values.{value-keeps}
+use Rattle.form_rule.proofs.keeps_form.Statement.{statement}
+use Rattle.form_rule.proofs.keeps_form.Tie as tie
 
 flow-set-requires : tie.Need-flow-set-requires
 flow-set-requires c κs = search needs

@@ -2,8 +2,8 @@
 use mathlib.Core.Path.{_∙_}
 use borrow.Author.Needs.{needs}
 use Rattle.sets.proofs.Members.{marks-lies}
-use Rattle.flow.proofs.sends_pass.Statement.{statement}
-use Rattle.flow.proofs.sends_pass.Tie as tie
+use Rattle.sync_rule.proofs.sends_pass.Statement.{statement}
+use Rattle.sync_rule.proofs.sends_pass.Tie as tie
 
 flow-lies-requires : tie.Need-flow-lies-requires
 flow-lies-requires c κs = search needs

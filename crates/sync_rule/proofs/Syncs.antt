@@ -1,22 +1,16 @@
--- What a sync asks, its send rows and its recv rows apart, and the value rows, which have one rule.
+-- What a sync asks, its send rows and its recv rows apart.
 use Prim.Native.Nat.{ℕ}
 use mathlib.Core.Bool.{Bool, true, false, _&&_}
-use mathlib.Core.Path.{_≡_, refl, ap, _∙_, fun-ext}
+use mathlib.Core.Path.{_≡_, ap, _∙_, fun-ext}
 use mathlib.Core.Option.{Option}
-use mathlib.Core.List.{List, [], _∷_}
 use lib.ListN.{length}
-use types.Run.{OneOf, miss}
-use denote.Enum.Declared.{tagOf}
-use Rattle.program.proofs.Form as form
 use Rattle.program.proofs.Test.{all-same}
-use Rattle.program.specs.declared.Form.{Form}
 use Rattle.program.specs.Maybe.{when}
 use Rattle.program.specs.Program.{Program, recvAt}
-use Rattle.program.specs.Flow.{u, row, Set, Table, forEach, keepsForm}
+use Rattle.program.specs.Flow.{u, row, Set, forEach}
 use Rattle.format.specs.Text.{Bytes}
 use Rattle.store.specs.Rows.{storeProgram}
 use Rattle.tables.specs.Tables.{storeFlow, storeComm}
-use Rattle.forms.proofs.Forms.{every-form}
 use Rattle.sets.specs.Sets.{PassingSet, setOf}
 use Rattle.sets.proofs.Tests.{implies-and, all-and}
 use Rattle.channel_asks.specs.declared.Demand.{Demand}
@@ -24,9 +18,7 @@ use Rattle.asks.specs.declared.rules.Ask.{Ask}
 use Rattle.channel_asks.specs.Channels.{chanTest, sendTest}
 use Rattle.asks.specs.Asks.{asks, storeAsks}
 use Rattle.channel_asks.proofs.Channels.{received}
-use Rattle.flow.specs.Rules.{recvTest, syncTest}
-
--- ---- a sync: its send rows and its recv rows apart
+use Rattle.sync_rule.specs.Rules.{recvTest, syncTest}
 
 each-and : (p : Program) (c : Set) (f g : ℕ → Bool) → forEach p c (λ r. f r && g r) ≡ forEach p c f && forEach p c g
 unfolding forEach
@@ -54,16 +46,3 @@ module _ (n : ℕ) (s : Bytes) where
     pub sync-recvs : {recvs : Bool} {marks : Bytes} → sends ≡ true → PassingSet n (chanTest (storeProgram n s) (storeComm s) Demand.Within t) marks
         → recvs ≡ forEach (storeProgram n s) (storeFlow s e) (storeAsks n s Ask.Recv (setOf marks)) → recvs ≡ syncTest (storeProgram n s) (storeFlow s) (storeComm s) t e
     sync-recvs {marks} f m q = rw (sync-apart, f) (q ∙ recv-marks (storeFlow s e) t marks m)
-
--- ---- the value rows other than fun: one rule for all
-
-abbrev values : List ℕ
-values = 1 ∷ 2 ∷ 3 ∷ 4 ∷ 5 ∷ 6 ∷ []
-
-pub value-keeps : (p : Program) (flow comm : Table) (r n : ℕ) (f : Form) → OneOf values (tagOf form.the-type f) → keepsForm p flow comm r n f ≡ flow n (row r)
-unfolding keepsForm
-value-keeps p flow comm r n =
-    every-form (λ f. OneOf values (tagOf form.the-type f) → keepsForm p flow comm r n f ≡ flow n (row r))
-    (λ o. absurd (miss values 0 tt o)) (λ o. refl) (λ c m o. refl) (λ c o. refl) (λ a b o. refl) (λ a o. refl) (λ a o. refl)
-    (λ f x t o. absurd (miss values 7 tt o)) (λ t o. absurd (miss values 8 tt o)) (λ e o. absurd (miss values 9 tt o)) (λ a o. absurd (miss values 10 tt o))
-    (λ a o. absurd (miss values 11 tt o)) (λ s l t r w o. absurd (miss values 12 tt o)) (λ f a o. absurd (miss values 13 tt o))
