@@ -1,3 +1,2 @@
--- Laws that the proofs of the functions share.
-pub mod Sets
-pub mod Checking
+-- Laws that the proof of the function uses.
+pub mod FirstLine

@@ -1,2 +1,2 @@
--- What the functions of this crate answer.
-pub mod Lines
+-- What the function of this crate answers.
+pub mod Answer

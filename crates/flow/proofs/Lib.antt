@@ -1,3 +1,2 @@
--- Laws about the definitions of specs/.
+-- Laws that the proofs of the functions use.
 pub mod Failing
-pub mod Keeping

@@ -1,3 +1,2 @@
 -- What the functions of this crate answer.
-pub mod Numbers
-pub mod Seen
+pub mod Strays

@@ -1,7 +1,8 @@
-// Refusals 6 and 7: the smallest row with a wrong pointer, and the smallest with a name bound earlier.
-use few::Few;
-use few::binders_of;
-use few::pointers_of;
+// Refusal 6: the smallest row with a wrong pointer.
+use row_numbers::Few;
+use row_numbers::pointers_of;
+use seen::Seen;
+use seen::larger;
 use seen::with_few;
 use store::NO_ROW;
 use stored_rows::row_at;
@@ -12,17 +13,13 @@ ghost use Prim.Native.Nat.{ℕ};
 ghost use lib.Dec.{ltb};
 ghost use Rattle.program.specs.Test.{least};
 ghost use Rattle.program.specs.Each.{collect, elem};
-ghost use Rattle.program.specs.Program.{pointers, binders};
-ghost use Rattle.format.specs.Structure.{pointerFault, binderFault};
+ghost use Rattle.program.specs.Program.{pointers};
+ghost use Rattle.format.specs.Structure.{pointerFault};
 ghost use Rattle.store.specs.Rows.{storeProgram, rowOr};
-ghost use Rattle.pointers.specs.Numbers.{flag, numbersOf, stray, strays};
-ghost use Rattle.pointers.specs.Seen.{Marks};
-
-mod few; // few.rt: the rows that a row points at, and the names that it binds
-mod seen; // seen.rt: the numbers that were seen so far
-
-pub use seen::Seen;
-pub use seen::larger;
+ghost use Rattle.row_numbers.specs.Numbers.{numbersOf};
+ghost use Rattle.seen.specs.Flags.{flag};
+ghost use Rattle.seen.specs.Seen.{Marks};
+ghost use Rattle.pointers.specs.Strays.{stray, strays};
 
 // 1 if row r may not point at row t: it is absent or not greater.
 fn is_stray(rows: u8, r: u8, t: u8) -> u8
@@ -63,35 +60,6 @@ fn pointed(store: &[u8], rows: u8) -> Seen
         r += 1;
     }
     seen
-}
-
-// The names that the first rows bind.
-pub fn bound(store: &[u8], rows: u8) -> Seen
-    ensures { λ x. ⌜ Marks (collect binders (storeProgram rows (now (store .entry)))) (x .marks) ⌝ }
-{
-    let mut seen = Seen::none();
-    let mut r = 0;
-    while r < rows {
-        seen = with_few(seen, binders_of(row_at(store, r)));
-        r += 1;
-    }
-    seen
-}
-
-// The smallest row with a name that is bound earlier, or NO_ROW.
-pub fn binder_fault(store: &[u8], rows: u8) -> u8
-    ensures { λ m. ⌜ m ≡ rowOr (least rows (binderFault (storeProgram rows (now (store .entry))))) ⌝ }
-{
-    let mut seen = Seen::none();
-    let mut r = 0;
-    while r < rows {
-        seen = with_few(seen, binders_of(row_at(store, r)));
-        if seen.again != 0 {
-            return r;
-        }
-        r += 1;
-    }
-    NO_ROW
 }
 
 // 1 if row r, which is not row 0, is not among the rows that are pointed at.

@@ -20,7 +20,7 @@ use Rattle.format.proofs.First.{First, fails, first-is}
 use Rattle.store.specs.Rows.{storeProgram, rowOr}
 use Rattle.store.proofs.Laws.{program-length}
 use Rattle.store.specs.Document.{storeDocument}
-use Rattle.allowed.specs.Lines.{lineOr}
+use Rattle.allowed.specs.Answer.{lineOr}
 use Rattle.store.proofs.Document.{rows-are}
 
 -- ---- a row, or none

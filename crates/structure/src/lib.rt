@@ -37,7 +37,7 @@ pub fn structure_fault(store: &[u8], rows: u8) -> Structure
     if pointer < rows {
         return at_row(Reason::WrongPointer, pointer);
     }
-    let binder = pointers::binder_fault(store, rows);
+    let binder = binders::binder_fault(store, rows);
     if binder < rows {
         return at_row(Reason::BoundTwice, binder);
     }

@@ -1,9 +1,8 @@
 -- `not_allowed` meets its contract: the flags tell what may be named, and the first part with a failing line has the first such line.
 -- Where a part passes, the next begins at the line after it.
 use native.Mathlib.Omega.{arith}
-use mathlib.Core.Path.{sym, _∙_}
 use borrow.Author.Needs.{needs}
-use Rattle.allowed.proofs.Checking.{comm-line, claim-line, flow-fails, comm-fails, claim-fails, none-fails}
+use Rattle.allowed.proofs.FirstLine.{comm-line, claim-line, flow-fails, comm-fails, claim-fails, none-fails}
 use Rattle.allowed.proofs.not_allowed.Statement.{statement}
 use Rattle.allowed.proofs.not_allowed.Tie as tie
 
@@ -46,12 +45,13 @@ check-sets-requires-2 c κs =
     let at-check-sets = at-comms .before .before in
     let at-chan-rows = at-check-sets .before .before .before in
     let at-bound = at-chan-rows .before .before in
-    let at-allowed-members = at-bound .before in (
+    let at-allowed-members = at-bound .before in
+    let start = at-allowed-members .before .before in (
       omega arith,
       omega (
         arith,
-        comm-line _ _ (at-bound .bound .ensures .tells) (at-chan-rows .chan-rows .ensures) (at-allowed-members .allowed-members .ensures)
-            (sym (at-check-sets .check-sets .ensures) ∙ at-comms .comms .given .1),
+        comm-line (start .args .rows) (start .args .store .now) (at-bound .bound .ensures .tells) (at-chan-rows .chan-rows .ensures) (at-allowed-members .allowed-members .ensures)
+            (at-check-sets .check-sets .ensures) (at-comms .comms .given .1),
       ),
     )
 
@@ -74,13 +74,14 @@ check-claims-requires c κs =
     let at-chan-rows = at-check-sets .before .before .before in
     let at-bound = at-chan-rows .before .before in
     let at-allowed-members = at-bound .before in
+    let start = at-allowed-members .before .before in
     omega (
       arith,
-      comm-line _ _ (at-bound .bound .ensures .tells) (at-chan-rows .chan-rows .ensures) (at-allowed-members .allowed-members .ensures)
-          (sym (at-check-sets .check-sets .ensures) ∙ at-comms .comms .given .1),
-      claim-line _ _ (at-bound .bound .ensures .tells) (at-chan-rows .chan-rows .ensures)
-          (at-allowed-members .allowed-members .ensures) (sym (at-check-sets .check-sets .ensures) ∙ at-comms .comms .given .1)
-          (sym (at-check-sets2 .check-sets2 .ensures) ∙ at-claims .claims .given .1),
+      comm-line (start .args .rows) (start .args .store .now) (at-bound .bound .ensures .tells) (at-chan-rows .chan-rows .ensures) (at-allowed-members .allowed-members .ensures)
+          (at-check-sets .check-sets .ensures) (at-comms .comms .given .1),
+      claim-line (start .args .rows) (start .args .store .now) (at-bound .bound .ensures .tells) (at-chan-rows .chan-rows .ensures)
+          (at-allowed-members .allowed-members .ensures) (at-check-sets .check-sets .ensures) (at-comms .comms .given .1)
+          (at-check-sets2 .check-sets2 .ensures) (at-claims .claims .given .1),
     )
 
 enum-known-line-3 : tie.Need-enum-known-line-3
@@ -96,8 +97,9 @@ returns c =
     let at-chan-rows = at-check-sets .before .before .before in
     let at-bound = at-chan-rows .before .before in
     let at-allowed-members = at-bound .before in
-    flow-fails _ _ (at-bound .bound .ensures .tells) (at-chan-rows .chan-rows .ensures) (at-allowed-members .allowed-members .ensures)
-    (sym (at-check-sets .check-sets .ensures) ∙ at-line .line .given .1)
+    let start = at-allowed-members .before .before in
+    flow-fails (start .args .rows) (start .args .store .now) (at-bound .bound .ensures .tells) (at-chan-rows .chan-rows .ensures) (at-allowed-members .allowed-members .ensures)
+    (at-check-sets .check-sets .ensures) (at-line .line .given .1)
 
 returns-2 : tie.Need-returns-2
 returns-2 c =
@@ -108,8 +110,9 @@ returns-2 c =
     let at-chan-rows = at-check-sets .before .before .before in
     let at-bound = at-chan-rows .before .before in
     let at-allowed-members = at-bound .before in
-    comm-fails _ _ (at-bound .bound .ensures .tells) (at-chan-rows .chan-rows .ensures) (at-allowed-members .allowed-members .ensures)
-    (sym (at-check-sets .check-sets .ensures) ∙ at-comms .comms .given .1) (sym (at-check-sets2 .check-sets2 .ensures) ∙ at-line2 .line2 .given .1)
+    let start = at-allowed-members .before .before in
+    comm-fails (start .args .rows) (start .args .store .now) (at-bound .bound .ensures .tells) (at-chan-rows .chan-rows .ensures) (at-allowed-members .allowed-members .ensures)
+    (at-check-sets .check-sets .ensures) (at-comms .comms .given .1) (at-check-sets2 .check-sets2 .ensures) (at-line2 .line2 .given .1)
 
 returns-3 : tie.Need-returns-3
 returns-3 c =
@@ -122,9 +125,10 @@ returns-3 c =
     let at-chan-rows = at-check-sets .before .before .before in
     let at-bound = at-chan-rows .before .before in
     let at-allowed-members = at-bound .before in
-    claim-fails _ _ (at-bound .bound .ensures .tells) (at-chan-rows .chan-rows .ensures) (at-allowed-members .allowed-members .ensures)
-    (sym (at-check-sets .check-sets .ensures) ∙ at-comms .comms .given .1) (sym (at-check-sets2 .check-sets2 .ensures) ∙ at-claims .claims .given .1)
-    (sym (at-check-claims .check-claims .ensures) ∙ at-line3 .line3 .given .1)
+    let start = at-allowed-members .before .before in
+    claim-fails (start .args .rows) (start .args .store .now) (at-bound .bound .ensures .tells) (at-chan-rows .chan-rows .ensures) (at-allowed-members .allowed-members .ensures)
+    (at-check-sets .check-sets .ensures) (at-comms .comms .given .1) (at-check-sets2 .check-sets2 .ensures) (at-claims .claims .given .1)
+    (at-check-claims .check-claims .ensures) (at-line3 .line3 .given .1)
 
 returns-4 : tie.Need-returns-4
 returns-4 c =
@@ -136,9 +140,10 @@ returns-4 c =
     let at-chan-rows = at-check-sets .before .before .before in
     let at-bound = at-chan-rows .before .before in
     let at-allowed-members = at-bound .before in
-    none-fails _ _ (at-bound .bound .ensures .tells) (at-chan-rows .chan-rows .ensures) (at-allowed-members .allowed-members .ensures)
-    (sym (at-check-sets .check-sets .ensures) ∙ at-comms .comms .given .1) (sym (at-check-sets2 .check-sets2 .ensures) ∙ at-claims .claims .given .1)
-    (sym (at-check-claims .check-claims .ensures) ∙ c .enum-told .given .1)
+    let start = at-allowed-members .before .before in
+    none-fails (start .args .rows) (start .args .store .now) (at-bound .bound .ensures .tells) (at-chan-rows .chan-rows .ensures) (at-allowed-members .allowed-members .ensures)
+    (at-check-sets .check-sets .ensures) (at-comms .comms .given .1) (at-check-sets2 .check-sets2 .ensures) (at-claims .claims .given .1)
+    (at-check-claims .check-claims .ensures) (c .enum-told .given .1)
 
 pub not-allowed-spec : {M : Type 1} → statement M
 not-allowed-spec =

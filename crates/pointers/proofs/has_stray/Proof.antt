@@ -1,7 +1,7 @@
 -- `has_stray` meets its contract: it is 1 where it is 1 of one of the rows.
 use borrow.Author.Needs.{needs}
-use Rattle.pointers.specs.Numbers.{strays}
-use Rattle.pointers.proofs.Smallest.{strays-one, strays-more}
+use Rattle.pointers.specs.Strays.{strays}
+use Rattle.pointers.proofs.Faults.{strays-one, strays-more}
 use Rattle.pointers.proofs.has_stray.Statement.{statement}
 use Rattle.pointers.proofs.has_stray.Tie as tie
 

@@ -4,7 +4,7 @@ use mathlib.Core.Path.{sym, _∙_}
 use borrow.Author.Tests.{lt-ltb}
 use borrow.Author.Needs.{needs}
 use Rattle.program.specs.Each.{elem}
-use Rattle.pointers.proofs.Marking.{flag-set, flag-clear}
+use Rattle.seen.proofs.Marking.{flag-set, flag-clear}
 use Rattle.pointers.proofs.is_lost.Statement.{statement}
 use Rattle.pointers.proofs.is_lost.Tie as tie
 

@@ -7,8 +7,8 @@ use Rattle.program.specs.Program.{pointers}
 use Rattle.program.specs.Each.{collect}
 use Rattle.calls.specs.Layout.{counting}
 use Rattle.store.specs.Rows.{storeProgram}
-use Rattle.pointers.specs.Seen.{Marks}
-use Rattle.pointers.proofs.Smallest.{marks-row}
+use Rattle.seen.specs.Seen.{Marks}
+use Rattle.seen.proofs.Smallest.{marks-row}
 use Rattle.pointers.proofs.pointed.Statement.{statement}
 use Rattle.pointers.proofs.pointed.Tie as tie
 

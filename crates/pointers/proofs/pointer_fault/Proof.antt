@@ -10,9 +10,10 @@ use Rattle.program.specs.Each.{collect}
 use Rattle.format.specs.Structure.{pointerFault}
 use Rattle.calls.specs.Layout.{counting}
 use Rattle.store.specs.Rows.{storeProgram}
-use Rattle.pointers.specs.Seen.{Marks}
-use Rattle.pointers.proofs.Smallest.{Passed, marks-row, pointer-row, first-row, no-row}
-use Rattle.pointers.proofs.Marking.{flag-set, flag-clear}
+use Rattle.seen.specs.Seen.{Marks}
+use Rattle.seen.proofs.Smallest.{Passed, marks-row, first-row, no-row}
+use Rattle.pointers.proofs.Faults.{pointer-row}
+use Rattle.seen.proofs.Marking.{flag-set, flag-clear}
 use Rattle.pointers.proofs.pointer_fault.Statement.{statement}
 use Rattle.pointers.proofs.pointer_fault.Tie as tie
 

@@ -5,7 +5,7 @@ use borrow.Author.Needs.{needs}
 use Rattle.inference.specs.Inference.{abstractOf}
 use Rattle.asks.specs.Asks.{Names}
 use Rattle.program.specs.Flow.{keepsForm, sendRule, recvRule}
-use Rattle.flow.proofs.Keeping.{value-keeps}
+use Rattle.form_rule.proofs.Values.{value-keeps}
 use Rattle.sync_adds.specs.Syncs.{endRule, syncRule}
 use Rattle.rule_adds.specs.Rules.{askRule, AskLow}
 use Rattle.set_adds.proofs.Adding.{adds-then}

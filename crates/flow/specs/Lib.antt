@@ -1,2 +1,0 @@
--- What a sync asks, and the answer.
-pub mod Rules

@@ -1,0 +1,3 @@
+-- What the functions of this crate answer.
+pub mod Flags
+pub mod Seen

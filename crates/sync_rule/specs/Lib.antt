@@ -1,0 +1,2 @@
+-- What a sync asks.
+pub mod Rules
