@@ -14,7 +14,7 @@ use Rattle.format.specs.Text.{Bytes, ascii, arguments}
 use Rattle.format.specs.Forms.{arity, formOf}
 use Rattle.format.specs.Print.{formWord, formNumbers, formText}
 use Rattle.store.specs.Kinds.{formPlace}
-use Rattle.write_text.specs.Write.{Room, Wrote}
+use Rattle.write_bytes.specs.Write.{Room, Wrote}
 use Rattle.write_forms.specs.Texts.{kindWord}
 
 -- ---- the words, one after the other, and where each begins

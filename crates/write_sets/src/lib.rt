@@ -10,7 +10,7 @@ ghost use Rattle.format.specs.Limits.{rowLimit};
 ghost use Rattle.format.specs.Print.{memberText, setText};
 ghost use Rattle.format.specs.Read.{present};
 ghost use Rattle.calls.specs.Layout.{setsSize, membersFrom, withEntry, decodeSets};
-ghost use Rattle.write_text.specs.Write.{Room, Wrote};
+ghost use Rattle.write_bytes.specs.Write.{Room, Wrote};
 ghost use Rattle.write_sets.specs.Texts.{entryText};
 
 // Writes a member: `u`, or the row's number.

@@ -5,8 +5,8 @@ use native.Mathlib.Omega.{arith}
 use lib.ListN.{length, length-set}
 use lib.Seq.{set-out}
 use borrow.Author.Needs.{needs}
-use Rattle.write_text.proofs.put_byte.Statement.{statement}
-use Rattle.write_text.proofs.put_byte.Tie as tie
+use Rattle.write_bytes.proofs.put_byte.Statement.{statement}
+use Rattle.write_bytes.proofs.put_byte.Tie as tie
 
 slice-write-out : tie.Need-slice-write-out
 slice-write-out c = search needs

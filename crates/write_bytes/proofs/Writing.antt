@@ -7,7 +7,7 @@ use native.Mathlib.Numerals.{add-one}
 use native.Mathlib.Omega.{arith}
 use lib.ListN.{length, set, take, getD, length-append}
 use lib.Seq.{sets, length-sets, take-suc, length-take-le}
-use Rattle.write_text.specs.Write.{Room, Wrote}
+use Rattle.write_bytes.specs.Write.{Room, Wrote}
 
 -- a text and then another one, written behind it
 pub sets-append : (l : List ℕ) (i : ℕ) (a b : List ℕ) → sets l i (a ++ b) ≡ sets (sets l i a) (i + length a) b

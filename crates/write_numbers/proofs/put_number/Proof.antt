@@ -2,9 +2,9 @@
 use native.Mathlib.Omega.{arith}
 use borrow.Author.Needs.{needs}
 use Rattle.format.specs.Text.{digits}
-use Rattle.write_text.proofs.Writing.{then, room-first, room-then}
-use Rattle.write_text.proofs.put_number.Statement.{statement}
-use Rattle.write_text.proofs.put_number.Tie as tie
+use Rattle.write_bytes.proofs.Writing.{then, room-first, room-then}
+use Rattle.write_numbers.proofs.put_number.Statement.{statement}
+use Rattle.write_numbers.proofs.put_number.Tie as tie
 
 put-place-requires : tie.Need-put-place-requires
 unfolding digits

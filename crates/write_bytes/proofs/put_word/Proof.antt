@@ -4,10 +4,10 @@ use native.Mathlib.Omega.{arith}
 use lib.ListN.{length, take}
 use lib.Seq.{take-all}
 use borrow.Author.Needs.{needs}
-use Rattle.write_text.proofs.Writing.{room-next, then-next, wrote-length}
-use Rattle.write_text.specs.Write.{Wrote}
-use Rattle.write_text.proofs.put_word.Statement.{statement}
-use Rattle.write_text.proofs.put_word.Tie as tie
+use Rattle.write_bytes.proofs.Writing.{room-next, then-next, wrote-length}
+use Rattle.write_bytes.specs.Write.{Wrote}
+use Rattle.write_bytes.proofs.put_word.Statement.{statement}
+use Rattle.write_bytes.proofs.put_word.Tie as tie
 
 abbrev Inv-loop : tie.InvT-loop
 Inv-loop out₀ at word next₀ i₀ out next i =

@@ -2,9 +2,9 @@
 use borrow.Author.Needs.{needs}
 use borrow.Author.Tests.{lt-ltb, le-ltb}
 use Rattle.format.specs.Text.{place}
-use Rattle.write_text.proofs.Writing.{nothing}
-use Rattle.write_text.proofs.put_place.Statement.{statement}
-use Rattle.write_text.proofs.put_place.Tie as tie
+use Rattle.write_bytes.proofs.Writing.{nothing}
+use Rattle.write_numbers.proofs.put_place.Statement.{statement}
+use Rattle.write_numbers.proofs.put_place.Tie as tie
 
 returns : tie.Need-returns
 unfolding place

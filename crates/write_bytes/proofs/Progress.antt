@@ -5,8 +5,8 @@ use mathlib.Core.Path.{_≡_, refl, sym, ap, _∙_}
 use native.Mathlib.Omega.{arith}
 use lib.ListN.{length, drop, length-append}
 use lib.Seq.{sets-eq}
-use Rattle.write_text.specs.Write.{Room, Wrote}
-use Rattle.write_text.proofs.Writing.{nothing, then, wrote-length}
+use Rattle.write_bytes.specs.Write.{Room, Wrote}
+use Rattle.write_bytes.proofs.Writing.{nothing, then, wrote-length}
 
 -- of a text that is to stand at i of l, the part before rest is written: that left m, and rest is to stand at j
 pub record Progress (l : List ℕ) (i : ℕ) (text : List ℕ) (m : List ℕ) (j : ℕ) (rest : List ℕ) : Type 0 where
