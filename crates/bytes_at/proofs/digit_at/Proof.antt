@@ -2,8 +2,8 @@
 use borrow.Author.Needs.{needs}
 use borrow.Author.Tests.{lt-ltb, le-ltb}
 use Rattle.format.specs.Text.{digitOf, digitAt}
-use Rattle.read_text.proofs.digit_at.Statement.{statement}
-use Rattle.read_text.proofs.digit_at.Tie as tie
+use Rattle.bytes_at.proofs.digit_at.Statement.{statement}
+use Rattle.bytes_at.proofs.digit_at.Tie as tie
 
 byte-at-requires : tie.Need-byte-at-requires
 byte-at-requires c κs = search needs

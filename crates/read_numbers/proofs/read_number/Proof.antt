@@ -4,9 +4,9 @@ use native.Mathlib.Omega.{arith}
 use borrow.Author.Needs.{needs}
 use borrow.Author.Tests.{lt-ltb, le-ltb, eq-eqb, ne-eqb}
 use Rattle.format.specs.Text.{readNumber}
-use Rattle.read_text.proofs.Reading.{digit-inside}
-use Rattle.read_text.proofs.read_number.Statement.{statement}
-use Rattle.read_text.proofs.read_number.Tie as tie
+use Rattle.read_numbers.proofs.Digits.{digit-inside}
+use Rattle.read_numbers.proofs.read_number.Statement.{statement}
+use Rattle.read_numbers.proofs.read_number.Tie as tie
 
 digit-at-requires : tie.Need-digit-at-requires
 digit-at-requires c κs = search needs

@@ -3,8 +3,8 @@ use mathlib.Core.Path.{sym}
 use denote.Ref.{now}
 use lib.ListN.{List·getD-eq-default}
 use borrow.Author.Needs.{needs}
-use Rattle.read_text.proofs.byte_at.Statement.{statement}
-use Rattle.read_text.proofs.byte_at.Tie as tie
+use Rattle.bytes_at.proofs.byte_at.Statement.{statement}
+use Rattle.bytes_at.proofs.byte_at.Tie as tie
 
 shared-slice-read-result : tie.Need-shared-slice-read-result
 shared-slice-read-result c = search needs
