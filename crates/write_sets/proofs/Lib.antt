@@ -1,4 +1,3 @@
 -- Laws that the proofs of the functions share.
 pub mod Parts
 pub mod Members
-pub mod Counting

@@ -1,9 +1,10 @@
-// Sets and their lines, written at a position. A set has a byte for each member, which is not 0 where the member is in the set: unit is member 0, and row r is r + 1.
+// Sets and their lines, written at a position. A set has a byte for each member, which is not 0 where the member is in the set: unit is member 0, and row r is r + 1. The count of the lines is passed on.
+pub use set_counts::count_sets;
+use set_counts::has_member;
 use store::Store;
 ghost use mathlib.Core.Bool.{So};
 ghost use mathlib.Core.List.{[]};
-ghost use mathlib.Core.Path.{_≡_};
-ghost use Prim.Native.Nat.{_<_, _≤_, max};
+ghost use Prim.Native.Nat.{_≤_};
 ghost use lib.ListN.{length};
 ghost use Rattle.program.specs.Each.{collect};
 ghost use Rattle.format.specs.Limits.{rowLimit};
@@ -24,26 +25,6 @@ fn put_member(out: &mut [u8], at: usize, m: usize) -> usize
     }
     let row = (m - 1) as u16;
     write_text::put_number(out, at, row)
-}
-
-// The larger number.
-fn larger(a: u8, b: u8) -> u8
-    ensures { λ m. ⌜ m ≡ max a b ⌝ }
-{
-    if a < b { b } else { a }
-}
-
-// Whether a set has a member. Every byte is looked at, so that the loop takes many at a time.
-fn has_member(flags: &[u8]) -> bool
-    ensures { λ r. ⌜ r ≡ present (membersFrom 0 (now (flags .entry))) ⌝ }
-{
-    let mut found = 0;
-    let mut i = 0;
-    while i < flags.len() {
-        found = larger(found, flags[i]);
-        i += 1;
-    }
-    0 < found
 }
 
 // Writes a set that has a member.
@@ -99,23 +80,4 @@ pub fn put_sets(out: &mut [u8], at: usize, word: &[u8], sets: &[u8]) -> usize
         n += 1;
     }
     next
-}
-
-// How many of these sets have a member, and so a line.
-pub fn count_sets(sets: &[u8]) -> usize
-    requires { ⌜ setsSize ≤ length (now sets) ⌝ }
-    ensures { λ r. ⌜ r ≡ length (decodeSets rowLimit 0 (now (sets .entry))) ⌝ }
-{
-    let mut lines = 0;
-    let mut k = 0;
-    while k < Store::ROWS {
-        let start = k * Store::MEMBERS;
-        let end = start + Store::MEMBERS;
-        k += 1;
-        if has_member(&sets[start..end]) {
-            lines += 1;
-            continue;
-        }
-    }
-    lines
 }

@@ -8,7 +8,8 @@ use Rattle.format.specs.Print.{setText}
 use Rattle.format.specs.Text.{ascii}
 use Rattle.calls.specs.Layout.{membersFrom}
 use Rattle.write_bytes.proofs.Writing.{room-first}
-use Rattle.write_sets.proofs.Members.{skip, keep, none-left, leftText, left-others, left-all}
+use Rattle.set_counts.proofs.Members.{skip, keep, none-left}
+use Rattle.write_sets.proofs.Members.{leftText, left-others, left-all}
 use Rattle.write_bytes.proofs.Progress.{Progress, begin, same-rest, room-left, onward, last, kept}
 use Rattle.write_sets.proofs.put_set.Statement.{statement}
 use Rattle.write_sets.proofs.put_set.Tie as tie

@@ -4,10 +4,10 @@ use native.Mathlib.Omega.{arith}
 use native.Mathlib.Nat.{zero-add}
 use mathlib.Core.Path.{_≡_, sym, _∙_}
 use Rattle.format.specs.Limits.{rowLimit}
-use Rattle.write_sets.proofs.Counting.{entriesFrom, entry-counted, entry-skipped, entries-end}
+use Rattle.set_counts.proofs.Counting.{entriesFrom, entry-counted, entry-skipped, entries-end}
 use borrow.Author.Needs.{needs}
-use Rattle.write_sets.proofs.count_sets.Statement.{statement}
-use Rattle.write_sets.proofs.count_sets.Tie as tie
+use Rattle.set_counts.proofs.count_sets.Statement.{statement}
+use Rattle.set_counts.proofs.count_sets.Tie as tie
 
 abbrev Inv-loop : tie.InvT-loop
 Inv-loop sets lines₀ k₀ lines k =

@@ -5,10 +5,10 @@ use native.Mathlib.Omega.{arith}
 use lib.ListN.{length}
 use Rattle.format.specs.Read.{present}
 use Rattle.calls.specs.Layout.{membersFrom}
-use Rattle.write_sets.proofs.Members.{foundFrom, found-start, found-more, found-end}
+use Rattle.set_counts.proofs.Members.{foundFrom, found-start, found-more, found-end}
 use borrow.Author.Needs.{needs}
-use Rattle.write_sets.proofs.has_member.Statement.{statement}
-use Rattle.write_sets.proofs.has_member.Tie as tie
+use Rattle.set_counts.proofs.has_member.Statement.{statement}
+use Rattle.set_counts.proofs.has_member.Tie as tie
 
 abbrev Inv-loop : tie.InvT-loop
 Inv-loop flags found₀ i₀ found i =
