@@ -9,10 +9,10 @@ use Rattle.format.specs.Text.{ascii}
 use Rattle.calls.specs.Layout.{membersFrom}
 use Rattle.write_bytes.proofs.Writing.{room-first}
 use Rattle.set_counts.proofs.Members.{skip, keep, none-left}
-use Rattle.write_sets.proofs.Members.{leftText, left-others, left-all}
+use Rattle.write_members.proofs.Members.{leftText, left-others, left-all}
 use Rattle.write_bytes.proofs.Progress.{Progress, begin, same-rest, room-left, onward, last, kept}
-use Rattle.write_sets.proofs.put_set.Statement.{statement}
-use Rattle.write_sets.proofs.put_set.Tie as tie
+use Rattle.write_members.proofs.put_set.Statement.{statement}
+use Rattle.write_members.proofs.put_set.Tie as tie
 
 abbrev Inv-loop : tie.InvT-loop
 Inv-loop out₀ at flags next₀ sep₀ m₀ out next sep m =

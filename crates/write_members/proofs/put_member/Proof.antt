@@ -5,8 +5,8 @@ use native.Mathlib.Omega.{arith}
 use borrow.Author.Needs.{needs}
 use Rattle.format.specs.Print.{memberText}
 use Rattle.format.specs.Text.{ascii}
-use Rattle.write_sets.proofs.put_member.Statement.{statement}
-use Rattle.write_sets.proofs.put_member.Tie as tie
+use Rattle.write_members.proofs.put_member.Statement.{statement}
+use Rattle.write_members.proofs.put_member.Tie as tie
 
 put-byte-requires : tie.Need-put-byte-requires
 unfolding memberText ascii
