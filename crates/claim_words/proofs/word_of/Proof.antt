@@ -1,9 +1,9 @@
 -- `word_of` meets its contract: in each arm the word of the code.
 use Rattle.calls.specs.Layout.{wordOf}
-use Rattle.claims.proofs.Claiming.{code-other}
+use Rattle.claim_words.proofs.Codes.{code-other}
 use borrow.Author.Needs.{needs}
-use Rattle.claims.proofs.word_of.Statement.{statement}
-use Rattle.claims.proofs.word_of.Tie as tie
+use Rattle.claim_words.proofs.word_of.Statement.{statement}
+use Rattle.claim_words.proofs.word_of.Tie as tie
 
 returns : tie.Need-returns
 unfolding wordOf
