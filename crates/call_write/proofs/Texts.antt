@@ -17,7 +17,7 @@ use Rattle.format.specs.Print.{documentText}
 use Rattle.calls.specs.declared.WriteAnswer.{WriteAnswer}
 use Rattle.calls.specs.Layout.{storeSize, decode}
 use Rattle.calls.specs.Calls.{Leaves, openedFixed, opened, andThen, written, write}
-use Rattle.write_text.specs.Write.{Wrote}
+use Rattle.write_bytes.specs.Write.{Wrote}
 use Rattle.store.specs.Document.{storeDocument}
 use Rattle.store.proofs.Document.{document-is}
 use Rattle.opening.specs.declared.Opened.{Opened}

@@ -1,9 +1,23 @@
-// What the words of a claim say, by what is found at the two ends of a channel.
+// The words of a claim: the word of its code in the store, and what a word says, by what is found at the two ends of a channel.
 use program::Facts;
 use program::Word;
 ghost use mathlib.Core.Bool.{not, _&&_};
 ghost use mathlib.Core.Path.{_≡_};
 ghost use Rattle.program.specs.Verdict.{says};
+ghost use Rattle.calls.specs.Layout.{wordOf};
+
+// The word of a claim's code in the store; every code but the four is that of many.
+pub fn word_of(code: u8) -> Word
+    ensures { λ w. ⌜ w ≡ wordOf code ⌝ }
+{
+    match code {
+        1 => Word::OneShot,
+        2 => Word::OneToOne,
+        3 => Word::FanOut,
+        4 => Word::FanIn,
+        _ => Word::Many,
+    }
+}
 
 // Neither holds.
 fn neither(a: bool, b: bool) -> bool

@@ -1,4 +1,4 @@
--- The claims in turn: the word of a code, one claim more, and the first that fails.
+-- The claims in turn: one claim more, and the first that fails.
 use Prim.Native.Nat.{ℕ, zero, suc, _+_, _-_, _<_, _≤_}
 use native.Mathlib.Omega.{arith}
 use native.Mathlib.Nat.{add-zero}
@@ -9,7 +9,6 @@ use mathlib.Core.Path.{_≡_, refl, sym, ap, _∙_}
 use lib.ListN.{length, take, drop}
 use lib.Dec.{eqb}
 use borrow.Author.Tests.{eq-eqb, ne-eqb}
-use Rattle.program.specs.declared.Word.the-variants.{Many}
 use Rattle.program.specs.Test.{pick}
 use Rattle.format.specs.declared.Reason.the-variants.{ClaimFails}
 use Rattle.format.specs.Refusals.{refusal, refused, accepted}
@@ -22,12 +21,6 @@ use Rattle.calls.specs.Layout.{wordOf, decodeClaims}
 use Rattle.calls.proofs.Codec.Sparse.{either}
 use Rattle.store.proofs.Claims.{claimsOn, claims-next}
 use Rattle.claims.specs.Claims.{claimsJudged}
-
--- ---- the word of a code
-
-pub code-other : (code : ℕ) → (code ≡ 1 → ⊥) → (code ≡ 2 → ⊥) → (code ≡ 3 → ⊥) → (code ≡ 4 → ⊥) → Many ≡ wordOf code
-unfolding wordOf
-code-other code a b d e = rw (ne-eqb code 1 a, ne-eqb code 2 b, ne-eqb code 3 d, ne-eqb code 4 e)
 
 -- ---- one claim more
 

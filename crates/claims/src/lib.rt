@@ -1,32 +1,19 @@
 // The claims of a store, judged in turn over a grid of which rows reach which.
 use calls::JudgeAnswer;
+use claim_words::word_of;
 use format::Reason;
 use format::Refusal;
-use program::Word;
 use store::Store;
 ghost use mathlib.Core.Path.{_≡_};
 ghost use Prim.Native.Nat.{_≤_};
 ghost use lib.ListN.{length};
 ghost use Rattle.program.specs.Verdict.{reach};
 ghost use Rattle.format.specs.Limits.{rowLimit, lineLimit};
-ghost use Rattle.calls.specs.Layout.{storeSize, wordOf};
+ghost use Rattle.calls.specs.Layout.{storeSize};
 ghost use Rattle.store.specs.Rows.{storeProgram};
 ghost use Rattle.tables.specs.Tables.{storeFlow};
 ghost use Rattle.grids.specs.Grid.{gridSize, Shows};
 ghost use Rattle.claims.specs.Claims.{claimIn, storeClaims, claimsJudged};
-
-// The word of a claim's code in the store; every code but the four is that of many.
-fn word_of(code: u8) -> Word
-    ensures { λ w. ⌜ w ≡ wordOf code ⌝ }
-{
-    match code {
-        1 => Word::OneShot,
-        2 => Word::OneToOne,
-        3 => Word::FanOut,
-        4 => Word::FanIn,
-        _ => Word::Many,
-    }
-}
 
 // The claims in turn, the first of which has a line: 11 at the line of the first that fails, or their count.
 pub fn judge_claims(store: &[u8], rows: u8, grid: &[u8], line: usize) -> JudgeAnswer

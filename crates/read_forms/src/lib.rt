@@ -1,6 +1,6 @@
 // Forms, read from a slice at a position: the word that opens one, and its numbers, up to 999.
+use read_numbers::NumberRead;
 use read_text::Next;
-use read_text::NumberRead;
 ghost use mathlib.Core.Bool.{So};
 ghost use mathlib.Core.Path.{_≡_};
 ghost use Rattle.format.specs.Text.{oneOf};

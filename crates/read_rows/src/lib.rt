@@ -1,8 +1,8 @@
 // Rows, read from a slice at a position with numbers up to 999.
 use raw_rows::RawRow;
 use read_forms::FormRead;
+use read_numbers::NumberRead;
 use read_text::Next;
-use read_text::NumberRead;
 ghost use mathlib.Core.Path.{_≡_};
 ghost use Rattle.format.specs.Read.{readResult, readBind, readRow};
 ghost use Rattle.read_rows.specs.Reads.{rowRead};

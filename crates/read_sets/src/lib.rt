@@ -1,6 +1,6 @@
 // Sets, read from a slice at a position: their members are marked in bytes of 0 and 1, and their fault is told.
+use read_numbers::NumberRead;
 use read_text::Next;
-use read_text::NumberRead;
 use store::Store;
 ghost use mathlib.Core.Path.{_≡_};
 ghost use lib.ListN.{length, set};
@@ -104,7 +104,7 @@ pub fn read_set(s: &[u8], at: usize, flags: &mut [u8]) -> SetRead
         mark(flags, 0);
         return read_members(s, q, SetFault::Nothing, 1, flags);
     }
-    let NumberRead::Found(n, q) = read_text::read_number(s, p) else {
+    let NumberRead::Found(n, q) = read_numbers::read_number(s, p) else {
         return SetRead::Missing;
     };
     let m = n as usize + 1;

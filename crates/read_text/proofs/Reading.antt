@@ -5,23 +5,14 @@ use mathlib.Core.List.{[], _∷_}
 use mathlib.Core.Option.{none, some}
 use mathlib.Core.Path.{_≡_}
 use native.Mathlib.Omega.{arith}
-use native.Mathlib.Decide.{decLt}
 use native.Mathlib.Numerals.{add-one}
 use lib.ListN.{length, drop, drop-of-length-le}
 use lib.Seq.{drop-cons}
 use borrow.Author.Tests.{eq-eqb, ne-eqb, ltb-true}
 use Rattle.program.proofs.Test.{and-left, and-right}
-use Rattle.format.specs.Text.{Bytes, byteAt, digitOf, digitAt, expect}
+use Rattle.format.specs.Text.{Bytes, byteAt, expect}
 use Rattle.format.proofs.Stands.{inside}
 use Rattle.read_text.specs.Reads.{noZero}
-
--- a digit stands inside the file
-pub digit-inside : (s : Bytes) (at r : ℕ) → r ≡ digitAt s at → r ≤ 9 → at < length s
-unfolding digitOf digitAt
-digit-inside s at r e h = inside s at (elim (decLt 0 (byteAt s at)) [ yes p ↦ p | no q ↦ absurd (zero-digit (omega arith)) ])
-  where
-    zero-digit : byteAt s at ≡ 0 → ⊥
-    zero-digit z = let k : r ≡ 10 = rw z at e in omega arith
 
 -- each byte of a word with no 0
 pub no-zero-at : (word : Bytes) (i : ℕ) → So (noZero word) → i < length word → 0 < byteAt word i

@@ -1,19 +1,12 @@
--- What the answers of the reading functions say, in the terms of the format's definitions, and which words they look for.
+-- What the answer of a search for a word says, in the terms of the format's definitions, and which words are looked for.
 use Prim.Native.Nat.{ℕ}
 use mathlib.Core.Bool.{Bool, true, _&&_}
 use mathlib.Core.List.{[], _∷_}
 use mathlib.Core.Option.{Option, none, some}
 use lib.Dec.{ltb}
 use Rattle.format.specs.Text.{Bytes}
-use Rattle.read_text.specs.declared.NumberRead.{NumberRead}
-use Rattle.read_text.specs.declared.NumberRead.the-variants as number
 use Rattle.read_text.specs.declared.Next.{Next}
 use Rattle.read_text.specs.declared.Next.the-variants as next
-
--- the number and the position past it
-abbrev pub numberRead : NumberRead → Option (ℕ × ℕ)
-numberRead (number.Found n past) = some (n, past)
-numberRead number.Missing = none
 
 -- the position past the word
 abbrev pub nextRead : Next → Option ℕ

@@ -3,7 +3,7 @@ use Prim.Native.Nat.{ℕ}
 use mathlib.Core.List.{List}
 use mathlib.Core.Path.{_≡_}
 use Rattle.format.specs.Text.{argument}
-use Rattle.write_text.specs.Write.{Room, Wrote}
+use Rattle.write_bytes.specs.Write.{Room, Wrote}
 
 pub same-room : {n k i : ℕ} → n ≡ k → Room i (argument k) → Room i (argument n)
 same-room e r = rw e r

@@ -2,7 +2,7 @@
 use format::Refusal;
 ghost use mathlib.Core.List.{[], _∷_};
 ghost use Prim.Native.Nat.{_<_};
-ghost use Rattle.write_text.specs.Write.{Room, Wrote};
+ghost use Rattle.write_bytes.specs.Write.{Room, Wrote};
 ghost use Rattle.report.specs.Report.{refusedText, acceptedText, yesNoText, wordsText, channelText};
 
 // Writes `[refused NUMBER LINE]`.

@@ -26,8 +26,8 @@ use Rattle.report.specs.Report.{refusedText, acceptedText, channelLines, judged
 use Rattle.bounds.proofs.Bounds.{Within, line-within, values-within, OpensTo, not-opened, decoded, opens-to, lastLine, load-within, judge-within}
 use Rattle.calls.proofs.Calls.{loaded-is, opened-loaded, judge-opened}
 use Rattle.report.proofs.Report.{loadText, refused-short, judged-short, report-short, report-calls}
-use Rattle.write_text.specs.Write.{Room, Wrote}
-use Rattle.write_text.proofs.Progress.{at-head}
+use Rattle.write_bytes.specs.Write.{Room, Wrote}
+use Rattle.write_bytes.proofs.Progress.{at-head}
 use Rattle.opening.specs.declared.Opened.{Opened}
 use Rattle.opening.specs.Opening.{OpenedIs}
 use Rattle.opening.proofs.Opening.{refused-is, opens-is, counted}

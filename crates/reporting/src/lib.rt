@@ -16,7 +16,7 @@ ghost use mathlib.Core.Path.{_≡_};
 ghost use Rattle.calls.specs.Layout.{storeSize};
 ghost use Rattle.calls.specs.Calls.{opened};
 ghost use Rattle.report.specs.Report.{checkedText, report, reportLimit, LeavesReport, reported};
-ghost use Rattle.write_text.specs.Write.{Wrote};
+ghost use Rattle.write_bytes.specs.Write.{Wrote};
 ghost use Rattle.reporting.specs.Reports.{FileReported};
 
 // No report is longer: 32 bytes for each row's line and for a first line.

@@ -7,7 +7,7 @@ ghost use Rattle.format.specs.Text.{ascii};
 ghost use Rattle.format.specs.Document.{claim};
 ghost use Rattle.format.specs.Print.{wordText, lineText};
 ghost use Rattle.calls.specs.Layout.{wordOf, decodeClaims};
-ghost use Rattle.write_text.specs.Write.{Room, Wrote};
+ghost use Rattle.write_bytes.specs.Write.{Room, Wrote};
 
 // Writes the word of a code.
 fn put_claim_word(out: &mut [u8], at: usize, code: u8) -> usize

@@ -13,8 +13,8 @@ use Rattle.program.proofs.Test.{all-elim}
 use Rattle.format.specs.Text.{Bytes, ascii, arguments}
 use Rattle.format.specs.Forms.{arity, formOf}
 use Rattle.format.specs.Print.{formWord, formNumbers, formText}
+use Rattle.write_bytes.specs.Write.{Room, Wrote}
 use Rattle.kinds.specs.Kinds.{formPlace}
-use Rattle.write_text.specs.Write.{Room, Wrote}
 use Rattle.write_forms.specs.Texts.{kindWord}
 
 -- ---- the words, one after the other, and where each begins

@@ -7,7 +7,7 @@ ghost use lib.ListN.{length, take, drop};
 ghost use Rattle.format.specs.Text.{arguments};
 ghost use Rattle.format.specs.Forms.{formOf};
 ghost use Rattle.format.specs.Print.{formText};
-ghost use Rattle.write_text.specs.Write.{Room, Wrote};
+ghost use Rattle.write_bytes.specs.Write.{Room, Wrote};
 ghost use Rattle.write_forms.specs.Texts.{kindWord};
 
 // Writes numbers, each with a space before it.

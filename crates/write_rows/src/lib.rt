@@ -10,7 +10,7 @@ ghost use Rattle.format.specs.Print.{rowText, lineText, rowLines};
 ghost use Rattle.format.specs.Document.{row};
 ghost use Rattle.calls.specs.Layout.{rowSize, storeSize, rowOf};
 ghost use Rattle.store.specs.Rows.{storeProgram};
-ghost use Rattle.write_text.specs.Write.{Room, Wrote};
+ghost use Rattle.write_bytes.specs.Write.{Room, Wrote};
 ghost use Rattle.write_rows.specs.Texts.{resultText};
 
 // Writes a result row.

@@ -1,4 +1,2 @@
 -- Laws that the proofs of the functions share.
 pub mod Parts
-pub mod Members
-pub mod Counting

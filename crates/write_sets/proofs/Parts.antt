@@ -1,5 +1,6 @@
--- The lines of sets in parts: what the loop writes in one turn, and what is left behind it.
+-- The line of a set, and the lines of sets in parts: what the loop writes in one turn, and what is left behind it.
 use Prim.Native.Nat.{ℕ, suc, _+_, _-_, _*_, _<_, _≤_}
+use mathlib.Core.Bool.{So}
 use mathlib.Core.List.{List, [], _∷_, _++_, append-nil}
 use mathlib.Core.Path.{_≡_, refl}
 use native.Mathlib.Numerals.{add-one}
@@ -7,9 +8,20 @@ use native.Mathlib.Omega.{arith}
 use lib.ListN.{drop, take}
 use lib.Seq.{drop-drop}
 use Rattle.program.specs.Each.{collect}
-use Rattle.format.specs.Text.{Bytes}
+use Rattle.format.specs.Text.{Bytes, ascii, argument}
 use Rattle.format.specs.Document.{Entry}
+use Rattle.format.specs.Print.{setText}
+use Rattle.format.specs.Read.{present}
 use Rattle.calls.specs.Layout.{memberLimit, membersFrom, withEntry, decodeSets}
+use Rattle.write_sets.specs.Texts.{entryText}
+
+-- ---- the line of a set, or nothing
+
+pub one-entry : (word : Bytes) (n : ℕ) (ms : List ℕ) → So (present ms)
+    → collect (entryText word) (withEntry n ms []) ≡ word ++ (argument n ++ (ascii " " ++ (setText ms ++ ascii "]\n")))
+unfolding present withEntry collect entryText
+one-entry word n [] h = let z : _≡_ {A = ℕ} 0 1 = cc in absurd (omega arith)
+one-entry word n (m ∷ ms) h = append-nil (entryText word (record { key = n; members = m ∷ ms }))
 
 -- ---- the lines of sets n, n + 1 and so on, below k
 

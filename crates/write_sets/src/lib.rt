@@ -1,73 +1,16 @@
-// Sets and their lines, written at a position. A set has a byte for each member, which is not 0 where the member is in the set: unit is member 0, and row r is r + 1.
+// The lines of sets, written at a position. A set has a byte for each member, which is not 0 where the member is in the set. The count of the lines is passed on.
+pub use set_counts::count_sets;
+use set_counts::has_member;
 use store::Store;
-ghost use mathlib.Core.Bool.{So};
+use write_members::put_set;
 ghost use mathlib.Core.List.{[]};
-ghost use mathlib.Core.Path.{_≡_};
-ghost use Prim.Native.Nat.{_<_, _≤_, max};
+ghost use Prim.Native.Nat.{_≤_};
 ghost use lib.ListN.{length};
 ghost use Rattle.program.specs.Each.{collect};
 ghost use Rattle.format.specs.Limits.{rowLimit};
-ghost use Rattle.format.specs.Print.{memberText, setText};
-ghost use Rattle.format.specs.Read.{present};
 ghost use Rattle.calls.specs.Layout.{setsSize, membersFrom, withEntry, decodeSets};
-ghost use Rattle.write_text.specs.Write.{Room, Wrote};
+ghost use Rattle.write_bytes.specs.Write.{Room, Wrote};
 ghost use Rattle.write_sets.specs.Texts.{entryText};
-
-// Writes a member: `u`, or the row's number.
-fn put_member(out: &mut [u8], at: usize, m: usize) -> usize
-    requires { ⌜ m ≤ 65536 ⌝ }
-    requires { ⌜ Room at (memberText m) ⌝ }
-    ensures { λ r. ⌜ Wrote (now (out .entry)) at (memberText m) r (now (out .exit)) ⌝ }
-{
-    if m == 0 {
-        return write_text::put_byte(out, at, 117);
-    }
-    let row = (m - 1) as u16;
-    write_text::put_number(out, at, row)
-}
-
-// The larger number.
-fn larger(a: u8, b: u8) -> u8
-    ensures { λ m. ⌜ m ≡ max a b ⌝ }
-{
-    if a < b { b } else { a }
-}
-
-// Whether a set has a member. Every byte is looked at, so that the loop takes many at a time.
-fn has_member(flags: &[u8]) -> bool
-    ensures { λ r. ⌜ r ≡ present (membersFrom 0 (now (flags .entry))) ⌝ }
-{
-    let mut found = 0;
-    let mut i = 0;
-    while i < flags.len() {
-        found = larger(found, flags[i]);
-        i += 1;
-    }
-    0 < found
-}
-
-// Writes a set that has a member.
-fn put_set(out: &mut [u8], at: usize, flags: &[u8]) -> usize
-    requires { ⌜ length (now flags) ≤ 65536 ⌝ }
-    requires { ⌜ So (present (membersFrom 0 (now flags))) ⌝ }
-    requires { ⌜ Room at (setText (membersFrom 0 (now flags))) ⌝ }
-    ensures { λ r. ⌜ Wrote (now (out .entry)) at (setText (membersFrom 0 (now (flags .entry)))) r (now (out .exit)) ⌝ }
-{
-    let mut next = at;
-    let mut sep = 91;
-    let mut m = 0;
-    while m < flags.len() {
-        if flags[m] == 0 {
-            m += 1;
-            continue;
-        }
-        let p = write_text::put_byte(out, next, sep);
-        next = put_member(out, p, m);
-        sep = 32;
-        m += 1;
-    }
-    write_text::put_byte(out, next, 93)
-}
 
 // Writes the line of a set, or nothing where the set is empty.
 fn put_set_line(out: &mut [u8], at: usize, word: &[u8], n: u16, flags: &[u8]) -> usize
@@ -99,23 +42,4 @@ pub fn put_sets(out: &mut [u8], at: usize, word: &[u8], sets: &[u8]) -> usize
         n += 1;
     }
     next
-}
-
-// How many of these sets have a member, and so a line.
-pub fn count_sets(sets: &[u8]) -> usize
-    requires { ⌜ setsSize ≤ length (now sets) ⌝ }
-    ensures { λ r. ⌜ r ≡ length (decodeSets rowLimit 0 (now (sets .entry))) ⌝ }
-{
-    let mut lines = 0;
-    let mut k = 0;
-    while k < Store::ROWS {
-        let start = k * Store::MEMBERS;
-        let end = start + Store::MEMBERS;
-        k += 1;
-        if has_member(&sets[start..end]) {
-            lines += 1;
-            continue;
-        }
-    }
-    lines
 }

@@ -22,7 +22,7 @@ use Rattle.format.specs.Print.{formWord, formNumbers, formText, rowText, member
 use Rattle.calls.specs.Layout.{memberLimit, rowsSize, storeSize, membersFrom, withEntry, decodeSets, wordOf, decodeClaims, commsStart, claimsStart}
 use Rattle.calls.proofs.Codec.Sparse.{either}
 use Rattle.store.proofs.Laws.{program-length}
-use Rattle.write_text.specs.Write.{Room}
+use Rattle.write_bytes.specs.Write.{Room}
 use Rattle.store.specs.Document.{storeDocument}
 use Rattle.write_sets.specs.Texts.{entryText}
 use Rattle.write_sets.proofs.Parts.{with-entry}

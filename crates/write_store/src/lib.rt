@@ -7,7 +7,7 @@ ghost use mathlib.Core.Path.{_≡_};
 ghost use lib.ListN.{length};
 ghost use Rattle.format.specs.Print.{documentText};
 ghost use Rattle.calls.specs.Layout.{storeSize};
-ghost use Rattle.write_text.specs.Write.{Wrote};
+ghost use Rattle.write_bytes.specs.Write.{Wrote};
 ghost use Rattle.store.specs.Document.{storeDocument};
 
 // Writes the document of the bytes of a store with so many rows.

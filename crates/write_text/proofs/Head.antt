@@ -3,8 +3,9 @@ use Prim.Native.Nat.{ℕ}
 use mathlib.Core.List.{_++_, append-assoc}
 use mathlib.Core.Path.{_≡_}
 use Rattle.format.specs.Text.{Bytes, ascii, argument}
-use Rattle.write_text.specs.Write.{Room, Wrote, headText}
-use Rattle.write_text.proofs.Writing.{then, room-first, room-then}
+use Rattle.write_bytes.specs.Write.{Room, Wrote}
+use Rattle.write_text.specs.Heads.{headText}
+use Rattle.write_bytes.proofs.Writing.{then, room-first, room-then}
 
 module _ (word : Bytes) (n : ℕ) (rest : Bytes) where
   headed : headText word n ++ rest ≡ word ++ (argument n ++ (ascii " " ++ rest))

@@ -1,4 +1,2 @@
--- Laws of texts that are written in parts.
-pub mod Writing
-pub mod Progress
+-- Laws of texts that are written behind the head of a line.
 pub mod Head

@@ -1,2 +1,2 @@
--- What the writes of this crate leave.
-pub mod Write
+-- The texts that the functions of this crate write, beside those of the format.
+pub mod Heads

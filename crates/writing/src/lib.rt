@@ -6,7 +6,7 @@ ghost use Prim.Native.Nat.{_≤_};
 ghost use lib.ListN.{length, take};
 ghost use Rattle.format.specs.Print.{documentText};
 ghost use Rattle.calls.specs.Layout.{storeSize};
-ghost use Rattle.write_text.specs.Write.{Wrote};
+ghost use Rattle.write_bytes.specs.Write.{Wrote};
 ghost use Rattle.store.specs.Document.{storeDocument};
 
 // Writes the document of the store at the head of a slice, with so many rows, and returns the length of its text.

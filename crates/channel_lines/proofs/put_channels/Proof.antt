@@ -4,8 +4,8 @@ use native.Mathlib.Omega.{arith}
 use Rattle.program.specs.Each.{collect}
 use Rattle.calls.specs.Layout.{decode}
 use Rattle.report.specs.Report.{channelLine, channelLines}
-use Rattle.write_text.proofs.Writing.{room-first}
-use Rattle.write_text.proofs.Progress.{Progress, begin, same-rest, room-left, onward, finished, kept}
+use Rattle.write_bytes.proofs.Writing.{room-first}
+use Rattle.write_bytes.proofs.Progress.{Progress, begin, same-rest, room-left, onward, finished, kept}
 use Rattle.channel_lines.proofs.Rows.{rowsFrom, rows-next, rows-end, lines-are}
 use borrow.Author.Needs.{needs}
 use Rattle.channel_lines.proofs.put_channels.Statement.{statement}

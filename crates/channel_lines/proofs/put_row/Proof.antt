@@ -1,7 +1,7 @@
 -- The line of a chan row has the words that the grid tells; another row has no line.
 use native.Mathlib.Omega.{arith}
 use mathlib.Core.Path.{sym, _∙_}
-use Rattle.write_text.proofs.Writing.{nothing}
+use Rattle.write_bytes.proofs.Writing.{nothing}
 use Rattle.format.specs.Limits.{rowLimit}
 use Rattle.calls.proofs.Canonical.Rows.{count-rows-le}
 use Rattle.channel_lines.proofs.Rows.{channel-line, no-line}

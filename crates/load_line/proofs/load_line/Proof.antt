@@ -5,7 +5,8 @@ use Rattle.program.specs.Maybe.{_>>=_}
 use Rattle.format.specs.Read.{readLine}
 use Rattle.format.specs.Text.{ascii}
 use Rattle.format.specs.declared.Section.the-variants.{Rows, Flows, Comms, Claims}
-use Rattle.read_text.specs.Reads.{numberRead, nextRead}
+use Rattle.read_numbers.specs.Numbers.{numberRead}
+use Rattle.read_text.specs.Reads.{nextRead}
 use Rattle.read_words.specs.Reads.{sectionRead}
 use Rattle.load_line.proofs.Keeps.{unread, line-kept}
 use Rattle.load_line.proofs.load_line.Statement.{statement}

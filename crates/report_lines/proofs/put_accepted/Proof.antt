@@ -1,6 +1,6 @@
 -- The three writes, one after the other, are the three parts of the line.
 use Rattle.format.specs.Text.{ascii}
-use Rattle.write_text.proofs.Writing.{then, room-first, room-then}
+use Rattle.write_bytes.proofs.Writing.{then, room-first, room-then}
 use Rattle.report.specs.Report.{acceptedText}
 use borrow.Author.Needs.{needs}
 use Rattle.report_lines.proofs.put_accepted.Statement.{statement}

@@ -1,6 +1,6 @@
 -- The writes, one after the other, are the parts of the line.
 use Rattle.format.specs.Text.{ascii}
-use Rattle.write_text.proofs.Writing.{then, room-first, room-then}
+use Rattle.write_bytes.proofs.Writing.{then, room-first, room-then}
 use Rattle.write_text.proofs.Head.{room-head, room-behind, then-behind}
 use Rattle.report.specs.Report.{channelText}
 use borrow.Author.Needs.{needs}

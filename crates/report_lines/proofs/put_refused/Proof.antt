@@ -1,6 +1,6 @@
 -- The four writes, one after the other, are the four parts of the line.
 use Rattle.format.specs.Text.{ascii}
-use Rattle.write_text.proofs.Writing.{then, room-first, room-then}
+use Rattle.write_bytes.proofs.Writing.{then, room-first, room-then}
 use Rattle.report.specs.Report.{refusedText}
 use Rattle.report_lines.proofs.Parts.{same-room, same-argument}
 use borrow.Author.Needs.{needs}

@@ -1,6 +1,6 @@
 -- Each word with the byte before it, and the closing bracket, one after the other, are the parts of the text.
 use Rattle.format.specs.Text.{ascii}
-use Rattle.write_text.proofs.Writing.{then, room-first, room-then}
+use Rattle.write_bytes.proofs.Writing.{then, room-first, room-then}
 use Rattle.report.specs.Report.{wordsText, moreWordsText}
 use borrow.Author.Needs.{needs}
 use Rattle.report_lines.proofs.put_words.Statement.{statement}

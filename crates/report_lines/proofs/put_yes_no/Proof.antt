@@ -1,6 +1,6 @@
 -- The byte, and behind it the word, which computes in each branch.
 use Rattle.format.specs.Text.{ascii}
-use Rattle.write_text.proofs.Writing.{then, room-then}
+use Rattle.write_bytes.proofs.Writing.{then, room-then}
 use Rattle.report.specs.Report.{yesNoText}
 use borrow.Author.Needs.{needs}
 use Rattle.report_lines.proofs.put_yes_no.Statement.{statement}

@@ -1,7 +1,7 @@
 -- Why the store does not open, or what judging it gives: in each branch the writes are the parts of the report.
 use native.Mathlib.Omega.{arith}
 use mathlib.Core.Path.{sym}
-use Rattle.write_text.proofs.Writing.{then, room-first, room-then}
+use Rattle.write_bytes.proofs.Writing.{then, room-first, room-then}
 use Rattle.opening.proofs.Opening.{fixed-size, counted}
 use Rattle.reporting.proofs.Reports.{refused-room, closed-line, closed-text, opened-room, judged-line, judged-count, judged-refused, judged-accepted}
 use borrow.Author.Needs.{needs}

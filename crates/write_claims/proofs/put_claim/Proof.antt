@@ -4,7 +4,7 @@ use Rattle.program.specs.Each.{collect}
 use Rattle.format.specs.Print.{lineText}
 use Rattle.format.specs.Text.{ascii}
 use Rattle.calls.specs.Layout.{decodeClaims}
-use Rattle.write_text.proofs.Writing.{nothing, then, room-first, room-then}
+use Rattle.write_bytes.proofs.Writing.{nothing, then, room-first, room-then}
 use Rattle.write_text.proofs.Head.{room-head, room-behind, then-behind}
 use Rattle.write_claims.proofs.Claims.{one-claim}
 use Rattle.write_claims.proofs.put_claim.Statement.{statement}

@@ -4,9 +4,9 @@ use native.Mathlib.Omega.{arith}
 use lib.ListN.{length, drop}
 use borrow.Author.Needs.{needs}
 use Rattle.calls.specs.Layout.{decodeClaims}
-use Rattle.write_text.proofs.Writing.{room-first}
+use Rattle.write_bytes.proofs.Writing.{room-first}
 use Rattle.write_claims.proofs.Claims.{claimsText, claims-next, claims-end}
-use Rattle.write_text.proofs.Progress.{Progress, begin, same-rest, room-left, onward, finished, kept}
+use Rattle.write_bytes.proofs.Progress.{Progress, begin, same-rest, room-left, onward, finished, kept}
 use Rattle.write_claims.proofs.put_claims.Statement.{statement}
 use Rattle.write_claims.proofs.put_claims.Tie as tie
 

@@ -4,9 +4,9 @@ use native.Mathlib.Omega.{arith}
 use lib.ListN.{length, drop}
 use borrow.Author.Needs.{needs}
 use Rattle.format.specs.Text.{arguments}
-use Rattle.write_text.proofs.Writing.{room-first}
+use Rattle.write_bytes.proofs.Writing.{room-first}
 use Rattle.write_forms.proofs.Numbers.{arguments-next, arguments-end}
-use Rattle.write_text.proofs.Progress.{Progress, begin, same-rest, room-left, onward, finished, kept}
+use Rattle.write_bytes.proofs.Progress.{Progress, begin, same-rest, room-left, onward, finished, kept}
 use Rattle.write_forms.proofs.put_arguments.Statement.{statement}
 use Rattle.write_forms.proofs.put_arguments.Tie as tie
 

@@ -3,7 +3,7 @@ use native.Mathlib.Omega.{arith}
 use mathlib.Core.Path.{sym}
 use lib.Seq.{length-take-le}
 use Rattle.format.specs.Text.{ascii}
-use Rattle.write_text.proofs.Writing.{then, room-first, room-then}
+use Rattle.write_bytes.proofs.Writing.{then, room-first, room-then}
 use Rattle.write_forms.proofs.Words.{form-text, arity-few}
 use borrow.Author.Needs.{needs}
 use Rattle.write_forms.proofs.put_form.Statement.{statement}

@@ -1,6 +1,6 @@
 -- The three writes, one after the other, are the three parts of `resultText`.
 use Rattle.format.specs.Text.{ascii}
-use Rattle.write_text.proofs.Writing.{then, room-first, room-then}
+use Rattle.write_bytes.proofs.Writing.{then, room-first, room-then}
 use Rattle.write_rows.specs.Texts.{resultText}
 use borrow.Author.Needs.{needs}
 use Rattle.write_rows.proofs.put_result.Statement.{statement}

@@ -1,7 +1,7 @@
 -- A row of kind 1 is a result (`result-row`). A bind's writes, one after the other, are the parts of its text (`bind-row`).
 use native.Mathlib.Omega.{arith}
 use Rattle.format.specs.Text.{ascii}
-use Rattle.write_text.proofs.Writing.{then, room-first, room-then}
+use Rattle.write_bytes.proofs.Writing.{then, room-first, room-then}
 use Rattle.write_text.proofs.Head.{room-head, room-behind, then-behind}
 use Rattle.write_rows.proofs.Parts.{result-row, five-numbers, bind-row}
 use borrow.Author.Needs.{needs}

@@ -1,7 +1,7 @@
 -- The three writes, one after the other, are the parts of the row's line.
 use Rattle.format.specs.Text.{ascii}
 use Rattle.format.specs.Print.{lineText}
-use Rattle.write_text.proofs.Writing.{then, room-first, room-then}
+use Rattle.write_bytes.proofs.Writing.{then, room-first, room-then}
 use Rattle.write_text.proofs.Head.{room-head, room-behind, then-behind}
 use borrow.Author.Needs.{needs}
 use Rattle.write_rows.proofs.put_row_line.Statement.{statement}

@@ -6,8 +6,8 @@ use Rattle.program.specs.Each.{collect}
 use Rattle.format.specs.Print.{lineText, rowLines}
 use Rattle.calls.specs.Layout.{counting}
 use Rattle.store.specs.Rows.{storeProgram, storeRow}
-use Rattle.write_text.proofs.Writing.{room-first}
-use Rattle.write_text.proofs.Progress.{Progress, begin, same-rest, room-left, onward, finished, kept}
+use Rattle.write_bytes.proofs.Writing.{room-first}
+use Rattle.write_bytes.proofs.Progress.{Progress, begin, same-rest, room-left, onward, finished, kept}
 use Rattle.write_rows.proofs.Parts.{rows-all, rows-next, rows-end, part-length}
 use Rattle.write_rows.proofs.put_rows.Statement.{statement}
 use Rattle.write_rows.proofs.put_rows.Tie as tie

@@ -6,8 +6,8 @@ use Rattle.program.specs.Each.{collect}
 use Rattle.format.proofs.Rising.{present-cases}
 use Rattle.format.specs.Text.{ascii}
 use Rattle.calls.specs.Layout.{withEntry}
-use Rattle.write_text.proofs.Writing.{nothing, then, room-first, room-then}
-use Rattle.write_sets.proofs.Members.{one-entry}
+use Rattle.write_bytes.proofs.Writing.{nothing, then, room-first, room-then}
+use Rattle.write_sets.proofs.Parts.{one-entry}
 use Rattle.write_text.proofs.Head.{room-head, room-behind, then-behind}
 use Rattle.write_sets.proofs.put_set_line.Statement.{statement}
 use Rattle.write_sets.proofs.put_set_line.Tie as tie

@@ -6,10 +6,10 @@ use borrow.Author.Needs.{needs}
 use Rattle.program.specs.Each.{collect}
 use Rattle.format.specs.Limits.{rowLimit}
 use Rattle.calls.specs.Layout.{memberLimit, decodeSets}
-use Rattle.write_text.proofs.Writing.{room-first}
+use Rattle.write_bytes.proofs.Writing.{room-first}
 use Rattle.write_sets.specs.Texts.{entryText}
 use Rattle.write_sets.proofs.Parts.{sets-next, sets-end}
-use Rattle.write_text.proofs.Progress.{Progress, begin, same-rest, room-left, onward, finished, kept}
+use Rattle.write_bytes.proofs.Progress.{Progress, begin, same-rest, room-left, onward, finished, kept}
 use Rattle.write_sets.proofs.put_sets.Statement.{statement}
 use Rattle.write_sets.proofs.put_sets.Tie as tie
 

@@ -5,8 +5,8 @@ use borrow.Author.Needs.{needs}
 use Rattle.format.specs.Print.{header}
 use Rattle.format.specs.Text.{ascii}
 use Rattle.calls.specs.Layout.{rowsSize, commsStart, claimsStart}
-use Rattle.write_text.specs.Write.{Room}
-use Rattle.write_text.proofs.Writing.{then, room-first, room-then}
+use Rattle.write_bytes.specs.Write.{Room}
+use Rattle.write_bytes.proofs.Writing.{then, room-first, room-then}
 use Rattle.write_store.proofs.Bounds.{stored-room}
 use Rattle.write_store.proofs.Parts.{behind-length, partsText, stored-parts}
 use Rattle.write_store.proofs.put_store.Statement.{statement}

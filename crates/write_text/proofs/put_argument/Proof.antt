@@ -2,7 +2,7 @@
 use mathlib.Core.List.{[], _∷_}
 use borrow.Author.Needs.{needs}
 use Rattle.format.specs.Text.{argument, digits}
-use Rattle.write_text.proofs.Writing.{then, room-first, room-then}
+use Rattle.write_bytes.proofs.Writing.{then, room-first, room-then}
 use Rattle.write_text.proofs.put_argument.Statement.{statement}
 use Rattle.write_text.proofs.put_argument.Tie as tie
 

@@ -1,8 +1,8 @@
 -- The three writes, one after the other, are the three parts of `headText`.
 use borrow.Author.Needs.{needs}
 use Rattle.format.specs.Text.{ascii}
-use Rattle.write_text.proofs.Writing.{then, room-first, room-then}
-use Rattle.write_text.specs.Write.{headText}
+use Rattle.write_bytes.proofs.Writing.{then, room-first, room-then}
+use Rattle.write_text.specs.Heads.{headText}
 use Rattle.write_text.proofs.put_head.Statement.{statement}
 use Rattle.write_text.proofs.put_head.Tie as tie
 

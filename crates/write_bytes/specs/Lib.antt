@@ -1,0 +1,2 @@
+-- What the writes leave.
+pub mod Write

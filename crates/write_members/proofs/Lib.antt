@@ -1,0 +1,2 @@
+-- Laws that the proof of the writer uses.
+pub mod Members
