@@ -240,7 +240,8 @@ fn the_hardest_programs_have_the_tables_of_the_reference() {
         let count = sizes.iter().filter(|&&size| size == greatest).count();
         (greatest, count)
     });
-    assert_eq!(greatest, [(153, 1), (78, 1), (76, 26), (76, 154), (31, 93)]);
+    let known = [(153, 1), (78, 1), (76, 26), (51, 55), (76, 154), (31, 93)];
+    assert_eq!(greatest, known);
 }
 
 #[test]
