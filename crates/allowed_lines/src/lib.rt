@@ -1,7 +1,7 @@
 // What the flow, comm and claim lines may name, as flags; and checking the lines of a part, one by one.
+use byte_order::larger;
 use program::Form;
 use program::Row;
-use seen::larger;
 use store::Store;
 use stored_rows::row_at;
 ghost use mathlib.Core.Path.{_≡_};

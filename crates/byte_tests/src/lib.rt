@@ -1,16 +1,9 @@
 // Tests of all bytes of a slice.
+use byte_order::larger;
 ghost use mathlib.Core.Path.{_≡_};
-ghost use Prim.Native.Nat.{max};
 ghost use lib.Dec.{ltb, eqb};
 ghost use Rattle.program.specs.Test.{pick};
 ghost use Rattle.program.specs.Each.{every};
-
-// The larger number.
-fn larger(a: u8, b: u8) -> u8
-    ensures { λ m. ⌜ m ≡ max a b ⌝ }
-{
-    if a < b { b } else { a }
-}
 
 // 0 if a byte is below a limit, else 1.
 fn beyond(byte: u8, limit: u8) -> u8

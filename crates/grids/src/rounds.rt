@@ -1,18 +1,12 @@
 // Warshall's rounds over a grid: who reaches row k reaches what row k reaches. All of it works on the first n rows.
+use byte_order::larger;
 use store::Store;
 ghost use mathlib.Core.Path.{_≡_};
-ghost use Prim.Native.Nat.{_<_, _≤_, max};
+ghost use Prim.Native.Nat.{_<_, _≤_};
 ghost use lib.ListN.{length};
 ghost use Rattle.format.specs.Limits.{rowLimit};
 ghost use Rattle.grids.specs.Grid.{gridSize, Closes};
 ghost use Rattle.grids.specs.Rounds.{RowIs, RowJoined, RowPassed, AllPassed};
-
-// The larger number.
-fn larger(a: u8, b: u8) -> u8
-    ensures { λ m. ⌜ m ≡ max a b ⌝ }
-{
-    if a < b { b } else { a }
-}
 
 // Row k of the grid. It is read from this copy while the grid is written, so that the loop over a row takes many bytes at a time.
 fn row_of(grid: &[u8], n: usize, k: usize) -> [u8; Store::ROWS]

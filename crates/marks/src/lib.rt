@@ -179,7 +179,7 @@ pub fn has_marked(store: &[u8], marks: &[u8], n: u8) -> bool {
         let at = from + i;
         let mark = MEMBERS + i;
         let new = both(store[at], marks[mark]);
-        found = sets::larger(found, new);
+        found = byte_order::larger(found, new);
         i += 1;
     }
     0 < found
@@ -228,7 +228,7 @@ fn join_given(store: &[u8], marks: &mut [u8], k: u8, c: u8) {
         let new = store[at];
         let place = to + i;
         let old = marks[place];
-        marks[place] = sets::larger(old, new);
+        marks[place] = byte_order::larger(old, new);
         i += 1;
     }
 }
@@ -285,7 +285,7 @@ fn gives_more(store: &[u8], marks: &[u8], n: u8, k: u8) -> bool {
         let at = to + i;
         let place = from + i;
         let new = sets::unless_in(marks[place], store[at]);
-        found = sets::larger(found, new);
+        found = byte_order::larger(found, new);
         i += 1;
     }
     0 < found

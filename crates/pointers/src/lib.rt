@@ -1,8 +1,8 @@
 // Refusal 6: the smallest row with a wrong pointer.
+use byte_order::larger;
 use row_numbers::Few;
 use row_numbers::pointers_of;
 use seen::Seen;
-use seen::larger;
 use seen::with_few;
 use store::NO_ROW;
 use stored_rows::row_at;

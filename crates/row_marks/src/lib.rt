@@ -1,22 +1,10 @@
 // Sets of rows as bytes: a row is in the set if its byte is not 0.
+use byte_order::larger;
+use byte_order::smaller;
 ghost use mathlib.Core.Path.{_≡_};
-ghost use Prim.Native.Nat.{_+_, _≤_, max, min};
+ghost use Prim.Native.Nat.{_+_, _≤_};
 ghost use lib.ListN.{length};
 ghost use Rattle.row_marks.specs.RowMarks.{meets, threeMeet};
-
-// The larger number.
-fn larger(a: u8, b: u8) -> u8
-    ensures { λ m. ⌜ m ≡ max a b ⌝ }
-{
-    if a < b { b } else { a }
-}
-
-// The smaller number.
-fn smaller(a: u8, b: u8) -> u8
-    ensures { λ m. ⌜ m ≡ min a b ⌝ }
-{
-    if a < b { a } else { b }
-}
 
 // Whether one of the first n rows is in both sets; the first begins at a position. Every row is looked at, so that the loop
 // has no way out but its end.

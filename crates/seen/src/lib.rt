@@ -1,8 +1,8 @@
 // The numbers that were seen so far: a byte for each, 1 where it was seen, and whether one was seen again.
+use byte_order::larger;
 use row_numbers::Few;
 ghost use mathlib.Core.Path.{_≡_};
 ghost use mathlib.Core.List.{[], _∷_};
-ghost use Prim.Native.Nat.{max};
 ghost use Rattle.row_numbers.specs.Numbers.{numbersOf};
 ghost use Rattle.seen.specs.Seen.{Marks, Adds};
 
@@ -23,13 +23,6 @@ impl Seen {
             again: 0,
         }
     }
-}
-
-// The larger number.
-pub fn larger(a: u8, b: u8) -> u8
-    ensures { λ m. ⌜ m ≡ max a b ⌝ }
-{
-    if a < b { b } else { a }
 }
 
 // One number more.

@@ -1,5 +1,5 @@
 // Sets of a store that are added to: a set joined to another, a member put in.
-use sets::larger;
+use byte_order::larger;
 use sets::unless_in;
 use store::Store;
 ghost use mathlib.Core.Bool.{_||_};

@@ -1,18 +1,12 @@
 // Whether a set has a member, and how many sets have one. A set has a byte for each member, which is not 0 where the member is in the set: unit is member 0, and row r is r + 1.
+use byte_order::larger;
 use store::Store;
 ghost use mathlib.Core.Path.{_≡_};
-ghost use Prim.Native.Nat.{_≤_, max};
+ghost use Prim.Native.Nat.{_≤_};
 ghost use lib.ListN.{length};
 ghost use Rattle.format.specs.Limits.{rowLimit};
 ghost use Rattle.format.specs.Read.{present};
 ghost use Rattle.calls.specs.Layout.{setsSize, membersFrom, decodeSets};
-
-// The larger number.
-fn larger(a: u8, b: u8) -> u8
-    ensures { λ m. ⌜ m ≡ max a b ⌝ }
-{
-    if a < b { b } else { a }
-}
 
 // Whether a set has a member. Every byte is looked at, so that the loop takes many at a time.
 pub fn has_member(flags: &[u8]) -> bool

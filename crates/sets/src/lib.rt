@@ -1,7 +1,8 @@
 // Sets as bytes, a byte for each member: unit first, then the rows. The sets of a store, and whether one lies in another.
+use byte_order::larger;
 use store::Store;
 ghost use mathlib.Core.Path.{_≡_};
-ghost use Prim.Native.Nat.{_+_, _≤_, max};
+ghost use Prim.Native.Nat.{_+_, _≤_};
 ghost use lib.ListN.{length};
 ghost use Rattle.program.specs.Flow.{lies};
 ghost use Rattle.format.specs.Limits.{rowLimit};
@@ -15,13 +16,6 @@ pub fn unless_in(a: u8, b: u8) -> u8
     ensures { λ m. ⌜ m ≡ unlessIn a b ⌝ }
 {
     if b == 0 { a } else { 0 }
-}
-
-// The larger number.
-pub fn larger(a: u8, b: u8) -> u8
-    ensures { λ m. ⌜ m ≡ max a b ⌝ }
-{
-    if a < b { b } else { a }
 }
 
 // Whether b has each of the first members that a has. Every member is looked at, so that the loop has no way out but its end.
