@@ -1,7 +1,7 @@
 -- What load and judge promise, put together.
 use Prim.Native.Nat.{ℕ}
 use native.Mathlib.Omega.{arith}
-use mathlib.Core.Path.{_≡_, refl, sym, _∙_}
+use mathlib.Core.Path.{_≡_, refl, _∙_}
 use Rattle.format.specs.declared.Refusal.{Refusal}
 use Rattle.format.specs.Text.{Bytes}
 use Rattle.calls.specs.declared.Counts.{Counts}

@@ -25,10 +25,10 @@ use Rattle.format.specs.Structure.{memberAllowed}
 use Rattle.calls.specs.Layout.{memberLimit, counting, membersFrom}
 use Rattle.calls.proofs.Codec.Sparse.{either}
 use Rattle.store.specs.Rows.{storeRow, storeProgram}
-use Rattle.store.proofs.Laws.{program-length, row-at-program}
+use Rattle.store.proofs.Laws.{program-length, row-at-program, zeros-at}
 use Rattle.store.proofs.Claims.{part-inside, part-past}
 use Rattle.seen.specs.Flags.{flag, Tells}
-use Rattle.seen.proofs.Marking.{zeros, tells-set}
+use Rattle.seen.proofs.Marking.{tells-set}
 use Rattle.allowed_lines.specs.Lines.{isValueRow, isChanRow, marked, memberCode, setCode, setAt, entryMarked, lineCode}
 
 -- ---- flags of the first rows
@@ -94,7 +94,7 @@ module _ (n : ℕ) (s : Bytes) where
 
 pub chans-none : (s bs : Bytes) → bs ≡ replicate rowLimit 0 → Tells (chanRow (storeProgram 0 s)) bs
 unfolding chanRow chanAt bindAt bindOf _>>=_ has storeProgram counting rowAt
-chans-none s bs e = record { at = λ j. rw e (zeros rowLimit j) }
+chans-none s bs e = record { at = λ j. rw e (zeros-at rowLimit j) }
 
 pub members-none : (s bs : Bytes) → bs ≡ 1 ∷ replicate rowLimit 0 → Tells (memberAllowed (storeProgram 0 s)) bs
 unfolding memberAllowed valueRow formAt bindAt bindOf _>>=_ has storeProgram counting rowAt
@@ -102,7 +102,7 @@ members-none s bs e = record { at = at }
   where
     at : (j : ℕ) → byteAt bs j ≡ flag (memberAllowed (storeProgram 0 s) j)
     at zero = rw e
-    at (suc j) = rw e (zeros rowLimit j)
+    at (suc j) = rw e (zeros-at rowLimit j)
 
 -- ---- the code of a set
 

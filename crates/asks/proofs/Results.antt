@@ -15,10 +15,9 @@ use Rattle.program.specs.Test.{pick}
 use Rattle.format.specs.Limits.{rowLimit}
 use Rattle.format.specs.Text.{Bytes, byteAt}
 use Rattle.store.specs.Rows.{storeProgram}
-use Rattle.store.proofs.Laws.{program-length}
+use Rattle.store.proofs.Laws.{program-length, zeros-at}
 use Rattle.forms.proofs.Forms.{row-past}
 use Rattle.asks.specs.Asks.{Names}
-use Rattle.sets.proofs.Members.{getD-zeros}
 
 -- ---- an array of names that a loop fills
 
@@ -35,7 +34,7 @@ pub record Filled (n : ℕ) (f : ℕ → ℕ) (s : Bytes) : Type 0 where
   pub bytes : (i : ℕ) → byteAt s i ≡ pick (ltb i n) (f i) 0
 
 pub filled-none : (f : ℕ → ℕ) → Filled 0 f (replicate rowLimit 0)
-filled-none f = record { size = omega (arith, length-replicate {A = ℕ} rowLimit 0); bytes = λ i. rw (le-ltb i 0 (omega arith)) (getD-zeros rowLimit i) }
+filled-none f = record { size = omega (arith, length-replicate {A = ℕ} rowLimit 0); bytes = λ i. rw (le-ltb i 0 (omega arith)) (zeros-at rowLimit i) }
 
 pub filled-more : (n : ℕ) {v : ℕ} {s : Bytes} {f : ℕ → ℕ} → n < rowLimit → Filled n f s → v ≡ f n → Filled (n + 1) f (set s n v)
 filled-more n {v} {s} {f} l h e =

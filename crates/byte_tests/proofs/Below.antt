@@ -2,7 +2,7 @@
 use Prim.Native.Nat.{ℕ, zero, suc, _+_, _≤_, _<_, max}
 use native.Mathlib.Omega.{arith}
 use native.Mathlib.Numerals.{add-one}
-use mathlib.Core.Bool.{Bool, true, false, _&&_}
+use mathlib.Core.Bool.{Bool, true, false, _&&_, and-true, and-false, and-assoc}
 use mathlib.Core.List.{[], _∷_}
 use mathlib.Core.Path.{_≡_, refl, sym, ap, _∙_}
 use lib.ListN.{length, getD, drop}
@@ -10,14 +10,14 @@ use lib.Seq.{drop-cons, drop-length}
 use lib.Dec.{ltb, eqb}
 use borrow.Author.Tests.{le-ltb, ne-eqb}
 use Rattle.program.specs.Test.{pick}
-use Rattle.program.proofs.Test.{and-true, and-false, and-assoc}
 use Rattle.program.specs.Each.{every}
 use Rattle.format.specs.Text.{Bytes}
 
 max-zero : (n : ℕ) → max n 0 ≡ n
 max-zero n = omega arith
 
-abbrev Below : ℕ → Bytes → Bool
+-- every byte is below a limit
+abbrev pub Below : ℕ → Bytes → Bool
 Below limit bs = every (λ x. ltb x limit) bs
 
 -- the flags found so far, with one byte more

@@ -1,14 +1,15 @@
 -- The call: a store that does not open stays, one that opens gets the smallest tables and their counts.
-use Prim.Native.Nat.{ℕ, _+_, _-_, _≤_}
+use Prim.Native.Nat.{ℕ, _-_, _≤_}
 use native.Mathlib.Omega.{arith}
 use mathlib.Core.Path.{_≡_, refl, sym, ap, _∙_}
-use lib.ListN.{length, take, drop, length-take, length-drop}
-use lib.Seq.{drop-drop, take-at, take-all}
+use lib.ListN.{length, take, drop, length-take}
+use lib.Seq.{drop-drop, take-at}
 use Rattle.format.specs.declared.Refusal.{Refusal}
 use Rattle.format.specs.Limits.{rowLimit}
 use Rattle.format.specs.Text.{Bytes}
 use Rattle.format.specs.Refusals.{accepted}
 use Rattle.format.specs.Document.{Document}
+use Rattle.format.proofs.Structure.{orderly-of}
 use Rattle.program.specs.Program.{Program}
 use Rattle.calls.specs.declared.Counts.{Counts}
 use Rattle.calls.specs.declared.LoadAnswer.{LoadAnswer}
@@ -18,9 +19,9 @@ use Rattle.calls.specs.Calls.{Leaves, opened, counts, refilled}
 use Rattle.inference.specs.Inference.{smallestDocument, inferred, infer}
 use Rattle.calls.proofs.Codec.{encode-length, decode-encode}
 use Rattle.calls.proofs.Canonical.{drop-thrice}
-use Rattle.calls.proofs.Calls.{orderly-of, opened-is}
+use Rattle.calls.proofs.Calls.{opened-is}
 use Rattle.inference.proofs.Inference.{smallest-well}
-use Rattle.store.proofs.Laws.{program-length}
+use Rattle.store.proofs.Laws.{program-length, rest-all}
 use Rattle.opening.specs.declared.Opened.{Opened}
 use Rattle.opening.specs.Opening.{OpenedIs}
 use Rattle.opening.proofs.Opening.{refused-is, opens-is}
@@ -28,10 +29,6 @@ use Rattle.sync_adds.specs.Syncs.{Ready}
 use Rattle.smallest.specs.Smallest.{Least}
 use Rattle.call_infer.proofs.Stores as stores
 use Rattle.call_infer.specs.Counting.{storeCounts}
-
--- what stands from a position on
-part-is : (s : Bytes) (base : ℕ) → take (length s - base) (drop base s) ≡ drop base s
-part-is s base = take-all (length s - base) (drop base s) (simp length-drop (omega arith))
 
 -- the parts of a store behind its rows
 pub counted : (n f c k : ℕ) (s : Bytes)
@@ -41,9 +38,9 @@ pub counted : (n f c k : ℕ) (s : Bytes)
     → _≡_ {A = Counts} (record { rows = n; flows = f; comms = c; claims = k }) (storeCounts n s)
 unfolding storeCounts decode
 counted n f c k s e g h =
-    let a = e ∙ ap (λ (x : Bytes). length (decodeSets rowLimit 0 x)) (part-is s rowsSize) in
-    let d = g ∙ ap (λ (x : Bytes). length (decodeSets rowLimit 0 x)) (part-is s commsStart ∙ sym (drop-drop setsSize rowsSize s)) in
-    let b = h ∙ ap (λ (x : Bytes). length (decodeClaims 0 x)) (part-is s claimsStart ∙ sym (drop-thrice rowsSize setsSize setsSize s)) in
+    let a = e ∙ ap (λ (x : Bytes). length (decodeSets rowLimit 0 x)) (rest-all s rowsSize) in
+    let d = g ∙ ap (λ (x : Bytes). length (decodeSets rowLimit 0 x)) (rest-all s commsStart ∙ sym (drop-drop setsSize rowsSize s)) in
+    let b = h ∙ ap (λ (x : Bytes). length (decodeClaims 0 x)) (rest-all s claimsStart ∙ sym (drop-thrice rowsSize setsSize setsSize s)) in
     λ i. record { rows = n; flows = a i; comms = d i; claims = b i }
 
 -- the counts of a document's own bytes

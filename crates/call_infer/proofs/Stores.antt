@@ -25,13 +25,14 @@ use Rattle.format.specs.Read.{rowNumbers, lineNumbers, aboveLimit}
 use Rattle.format.specs.Refusals.{accepted}
 use Rattle.format.proofs.Order.{orderly-iff}
 use Rattle.format.proofs.Rising.{every-left, every-head, every-tail}
+use Rattle.format.proofs.Structure.{orderly-of}
 use Rattle.calls.specs.Layout.{memberLimit, rowsSize, setsSize, claimsStart, commsStart, storeSize, flowAt, commAt, setsBytes, encode, decode}
 use Rattle.calls.specs.Canonical.{countRows}
 use Rattle.calls.specs.Calls.{opened}
 use Rattle.inference.specs.Inference.{abstractOf, setFlags, tableFlags, smallestDocument}
 use Rattle.calls.proofs.Codec.{low, decode-encode}
 use Rattle.calls.proofs.Codec.Sets.{sets-bytes-length}
-use Rattle.calls.proofs.Calls.{orderly-of, opened-is}
+use Rattle.calls.proofs.Calls.{opened-is}
 use Rattle.calls.proofs.Canonical.{rows-decoded}
 use Rattle.calls.proofs.Canonical.Lists.{chunks-iff}
 use Rattle.calls.proofs.Canonical.Rows.{count-rows-le}

@@ -1,27 +1,27 @@
 -- Writing a store that opens: its text, where it fits the output.
 use Prim.Native.Nat.{ℕ, _+_, _≤_, _<_}
 use native.Mathlib.Omega.{arith}
-use mathlib.Core.Bool.{Bool, true, false}
-use mathlib.Core.List.{List, [], _∷_, _++_}
-use mathlib.Core.Path.{_≡_, refl, sym, ap, _∙_, subst}
+use mathlib.Core.Bool.{true, false}
+use mathlib.Core.List.{_++_}
+use mathlib.Core.Path.{_≡_, refl, sym, ap, _∙_}
 use lib.ListN.{length, take, drop, length-take}
 use lib.Seq.{sets, sets-eq}
 use lib.Dec.{ltb}
-use borrow.Author.Tests.{lt-ltb, le-ltb, ltb-false}
+use borrow.Author.Tests.{lt-ltb, le-ltb}
 use Rattle.format.specs.declared.Refusal.{Refusal}
-use Rattle.format.specs.declared.Reason.the-variants.{StoreTooShort, OutputTooShort}
+use Rattle.format.specs.declared.Reason.the-variants.{OutputTooShort}
 use Rattle.format.specs.Text.{Bytes}
-use Rattle.format.specs.Refusals.{refusal, Result, refused, accepted}
+use Rattle.format.specs.Refusals.{refusal, accepted}
 use Rattle.format.specs.Document.{Document}
 use Rattle.format.specs.Print.{documentText}
 use Rattle.calls.specs.declared.WriteAnswer.{WriteAnswer}
 use Rattle.calls.specs.Layout.{storeSize, decode}
-use Rattle.calls.specs.Calls.{Leaves, openedFixed, opened, andThen, written, write}
+use Rattle.calls.specs.Calls.{Leaves, opened, andThen, written, write}
 use Rattle.write_bytes.specs.Write.{Wrote}
 use Rattle.store.specs.Document.{storeDocument}
 use Rattle.store.proofs.Document.{document-is}
 use Rattle.opening.specs.declared.Opened.{Opened}
-use Rattle.opening.specs.Opening.{Opens, OpenedIs}
+use Rattle.opening.specs.Opening.{OpenedIs}
 use Rattle.opening.proofs.Opening.{refused-is, opens-is}
 
 -- a text that fits, written at the head of the output

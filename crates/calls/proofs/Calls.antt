@@ -1,15 +1,15 @@
 -- The proofs of the demands (Demands.antt) from the theorems about files, the store, judge and runs.
 use Prim.Native.Nat.{ℕ, _≤_, _<_}
-use mathlib.Core.Bool.{Bool, true, false, So, false≢true}
-use mathlib.Core.List.{List, [], _∷_, _++_, map}
-use mathlib.Core.Option.{Option, none, some}
+use mathlib.Core.Bool.{Bool, true, false, So}
+use mathlib.Core.List.{List, _++_, map}
+use mathlib.Core.Option.{none, some}
 use mathlib.Core.Path.{_≡_, refl, sym, ap, _∙_, subst}
 use mathlib.Core.Logic.{_↔_}
 use native.Mathlib.Omega.{arith}
-use lib.ListN.{length, take, drop, replicate, length-append, length-drop}
-use lib.Seq.{take-at, drop-at}
+use lib.ListN.{length, take, drop, replicate, length-append}
+use lib.Seq.{take-at}
 use lib.Dec.{ltb}
-use borrow.Author.Tests.{lt-ltb, le-ltb, ltb-false, ltb-true}
+use borrow.Author.Tests.{lt-ltb, le-ltb, ltb-false}
 use Rattle.program.specs.Each.{Member, Each}
 use Rattle.program.specs.Program.{chanAt, chanRow}
 use Rattle.program.specs.FlowRule.{KeepsAll}
@@ -17,7 +17,7 @@ use Rattle.program.specs.Run.{Path, made, Step, run}
 use Rattle.program.specs.History.{HistoryFits}
 use Rattle.program.proofs.Each.{each-at}
 use Rattle.program.proofs.FlowRule.{keeps-iff}
-use Rattle.program.proofs.Test.{and-left, none-least}
+use Rattle.program.proofs.Test.{none-least}
 use Rattle.program.proofs.Sound.Histories.{claims-hold}
 use Rattle.format.specs.declared.Reason.the-variants.{StoreTooShort, StoreEmpty, StoreUnsound, OutputTooShort}
 use Rattle.format.specs.declared.Refusal.{Refusal}
@@ -26,21 +26,21 @@ use Rattle.format.specs.Text.{Bytes}
 use Rattle.format.specs.Refusals.{refusal, Result, refused, accepted}
 use Rattle.format.specs.Document.{Claim, Document}
 use Rattle.format.specs.Print.{documentText}
-use Rattle.format.specs.WellFormed.{orderly, wellFormed}
+use Rattle.format.specs.WellFormed.{wellFormed}
 use Rattle.format.specs.Check.{checkAny, check}
 use Rattle.format.proofs.Files.{check-any-iff, check-iff}
+use Rattle.format.proofs.Structure.{orderly-of}
 use Rattle.calls.specs.declared.Counts.{Counts}
 use Rattle.calls.specs.declared.LoadAnswer.{LoadAnswer}
 use Rattle.calls.specs.declared.JudgeAnswer.{JudgeAnswer}
 use Rattle.calls.specs.declared.WriteAnswer.{WriteAnswer}
 use Rattle.calls.specs.declared.VerdictStatus.{VerdictStatus}
-use Rattle.calls.specs.declared.VerdictAnswer.{VerdictAnswer}
 use Rattle.calls.specs.Layout.{storeSize, encode, decode, same}
 use Rattle.calls.specs.Judging.{verdictWords, flowTable, commTable, wordHolds, WordHolds, reaches, failingRow, after10, judgeDocument, verdictDocument}
 use Rattle.calls.specs.Calls.{Outcome, unsound, isEmpty, openedFixed, opened, counts, refilled, loaded, load, judgeAnswered, andThen, judge, verdictOf, verdictGiven, verdict, written, write}
 use Rattle.calls.proofs.Codec.{encode-length, decode-encode, unsound-iff, opened-encode}
 use Rattle.calls.proofs.Judging.{rows-well, row-iff, accepts-iff}
-use Rattle.calls.specs.Exact.{RowKeeps, ClaimHolds}
+use Rattle.calls.specs.Exact.{RowKeeps}
 
 -- ---- a store that is long enough
 
@@ -121,10 +121,6 @@ loaded-is file store c e =
     let l = long-enough file store c e in
     let (d, q, w, s, k) = load-takes file store l c .0 e in
     (d, q, w, s, k, ap (λ (f : Bytes). load f store .bytes) q ∙ load-keeps d w (subst (λ (f : Bytes). length f ≤ byteLimit) q s) store l)
-
-pub orderly-of : (d : Document) → So (wellFormed d) → So (orderly d)
-unfolding wellFormed
-orderly-of d w = and-left (orderly d) _ w
 
 -- a store that begins with a document's bytes opens to the document
 pub opened-loaded : (d : Document) → So (wellFormed d) → (rest : Bytes) → opened (encode d ++ rest) ≡ accepted d

@@ -14,7 +14,7 @@ use lib.ListN.{length, take, drop, length-drop}
 use lib.Seq.{drop-drop, take-add}
 use lib.Dec.{ltb}
 use Rattle.program.specs.Each.{every, collect}
-use Rattle.program.proofs.Test.{and-left, and-right, and-intro}
+use Rattle.program.proofs.Test.{and-left, and-right, and-intro, same-tests}
 use Rattle.format.specs.Limits.{rowLimit}
 use Rattle.format.specs.Text.{Bytes}
 use Rattle.format.specs.Document.{Document, Line, flow, comm, claim}
@@ -83,11 +83,6 @@ drop-thrice a b c s = ap (drop c) (drop-drop b a s) ∙ drop-drop c (a + b) s
 claims-part : (s : Bytes) → claimsSound s ≡ every (λ b. ltb b codeLimit) (claimsPart s)
 unfolding claimsSound
 claims-part s = ap (every λ b. ltb b codeLimit) (sym (drop-thrice rowsSize setsSize setsSize s))
-
-same-tests : (a b : Bool) → (So a → So b) → (So b → So a) → a ≡ b
-same-tests true b f g = sym (f refl)
-same-tests false true f g = g refl
-same-tests false false f g = refl
 
 and-swap : (a b c : Bool) → (a && b && c) ≡ (a && c && b)
 and-swap false b c = refl

@@ -26,6 +26,7 @@ use Rattle.format.specs.Print.{rowLines, linesOf}
 use Rattle.format.specs.Read.{present, rising, lineNumbers, aboveLimit}
 use Rattle.format.specs.WellFormed.{entriesRise, orderly, wellFormed}
 use Rattle.format.specs.Refusals.{accepted}
+use Rattle.format.proofs.Structure.{orderly-of}
 use Rattle.calls.specs.Layout.{rowsSize, setsSize, storeSize, counting, padded, rowBytes, setsBytes, claimCode, encode, decodeRows, decodeSets, decodeClaims, decode, same}
 use Rattle.calls.specs.Calls.{unsound, isEmpty, openedFixed}
 use Rattle.calls.proofs.Codec.Sparse.{counting-length}
@@ -154,10 +155,6 @@ same-elim (x ∷ xs) (y ∷ ys) t = rw (eqb-true x y (and-left _ (same xs ys) t)
 
 pub same-iff : (xs ys : Bytes) → So (same xs ys) ↔ (xs ≡ ys)
 same-iff xs ys = (same-elim xs ys, λ e. rw e (same-refl ys))
-
-orderly-of : (d : Document) → So (wellFormed d) → So (orderly d)
-unfolding wellFormed
-orderly-of d t = and-left _ _ t
 
 sound-encode : (d : Document) → So (wellFormed d) → unsound (encode d) ≡ false
 unfolding unsound

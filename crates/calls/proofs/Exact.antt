@@ -1,5 +1,5 @@
 -- Judge and verdict of any store are as specs/Exact says: what opening it finds, then what the document's flow rules and claims say.
-use Prim.Native.Nat.{ℕ, zero, suc, _+_, _≤_}
+use Prim.Native.Nat.{ℕ, zero, suc, _+_}
 use native.Mathlib.Omega.{arith}
 use mathlib.Core.Bool.{Bool, true, false, So, false≢true}
 use mathlib.Core.List.{List, [], _∷_, _++_, map}
@@ -14,19 +14,19 @@ use Rattle.program.specs.declared.Word.{Word}
 use Rattle.program.specs.Each.{every}
 use Rattle.program.specs.Program.{chanRow}
 use Rattle.program.proofs.Test.{and-left, and-right}
-use Rattle.format.specs.declared.Reason.the-variants.{FlowRuleFails, ClaimFails, StoreTooShort, StoreEmpty, StoreUnsound, NotAChannel}
+use Rattle.format.specs.declared.Reason.the-variants.{FlowRuleFails, StoreTooShort, StoreEmpty, StoreUnsound, NotAChannel}
 use Rattle.format.specs.declared.Refusal.{Refusal}
 use Rattle.format.specs.Text.{Bytes}
 use Rattle.format.specs.Refusals.{number, refusal, Result, refused, accepted}
 use Rattle.format.specs.Document.{Document}
 use Rattle.format.specs.Print.{documentText}
-use Rattle.format.specs.Structure.{rowLine, claimLine}
+use Rattle.format.specs.Structure.{rowLine}
 use Rattle.format.specs.WellFormed.{wellFormed}
 use Rattle.format.proofs.Files.{check-any-iff}
 use Rattle.calls.specs.declared.Counts.{Counts}
 use Rattle.calls.specs.declared.LoadAnswer.{LoadAnswer}
 use Rattle.calls.specs.declared.JudgeAnswer.{JudgeAnswer}
-use Rattle.calls.specs.Answers.{Answer, turnedBack, answered, refusalAnswer, loadAnswer, judgeAnswer, yesOrNo, statusAnswer, verdictAnswer}
+use Rattle.calls.specs.Answers.{turnedBack, answered, refusalAnswer, judgeAnswer, yesOrNo, statusAnswer, verdictAnswer}
 use Rattle.calls.specs.Layout.{storeSize, encode, decode}
 use Rattle.calls.specs.Judging.{verdictWords, wordHolds, WordHolds, reaches, failingRow, after10, judgeDocument, verdictDocument}
 use Rattle.calls.specs.Calls.{isEmpty, unsound, openedFixed, opened, load, judgeAnswered, andThen, judge, verdictOf, verdictGiven, verdict}

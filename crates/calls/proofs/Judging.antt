@@ -1,6 +1,6 @@
 -- Judge is exact: what it answers of a well-formed document, case by case.
 use Prim.Native.Nat.{ℕ, _+_, _<_}
-use mathlib.Core.Bool.{Bool, true, false, not, _&&_, So, false≢true}
+use mathlib.Core.Bool.{true, false, not, So, false≢true}
 use mathlib.Core.List.{List, [], _∷_, _++_}
 use mathlib.Core.Option.{Option, none, some}
 use mathlib.Core.Path.{_≡_, refl, sym, ap, _∙_, subst}
@@ -9,14 +9,12 @@ use native.Mathlib.Omega.{arith}
 use lib.ListN.{length}
 use borrow.Author.Tests.{not-false, not-true}
 use Rattle.program.specs.declared.Word.{Word}
-use Rattle.program.specs.declared.Bind.{Bind}
 use Rattle.program.specs.declared.Row.{Row}
-use Rattle.program.specs.Test.{all, least}
-use Rattle.program.specs.Program.{Program, bindAt}
+use Rattle.program.specs.Program.{bindAt}
 use Rattle.program.specs.Flow.{keepsAt, keepsAll}
-use Rattle.program.specs.FlowRule.{FlowRule, KeepsAll}
-use Rattle.program.specs.Walk.{CanShare, Holds, sendPlace, receivePlace}
-use Rattle.program.proofs.Test.{and-left, and-right, all-intro, least-is, Least, none-passes, smallest}
+use Rattle.program.specs.FlowRule.{KeepsAll}
+use Rattle.program.specs.Walk.{sendPlace, receivePlace}
+use Rattle.program.proofs.Test.{all-intro, least-is, Least, none-passes, smallest}
 use Rattle.program.proofs.Maybe.{when-intro}
 use Rattle.program.specs.Each.{Each, _&_}
 use Rattle.program.proofs.Each.{each-imp, each-right}
@@ -24,27 +22,22 @@ use Rattle.program.proofs.WellFormed.{WellFormed}
 use Rattle.program.proofs.FlowRule.{rule-iff, when-iff, keeps-iff}
 use Rattle.program.proofs.Decides.Verdicts.{claim-iff}
 use Rattle.format.specs.declared.Reason.the-variants.{FlowRuleFails, ClaimFails}
-use Rattle.format.specs.declared.Refusal.{Refusal}
 use Rattle.format.specs.Refusals.{refusal, Result, refused, accepted}
 use Rattle.format.specs.Document.{Claim, Document}
 use Rattle.format.specs.Read.{present}
-use Rattle.format.specs.Structure.{rowLine, claimLine, structureFault}
-use Rattle.format.specs.WellFormed.{orderly, wellFormed}
+use Rattle.format.specs.Structure.{rowLine, claimLine}
+use Rattle.format.specs.WellFormed.{wellFormed}
 use Rattle.format.proofs.First.{First, all-pass, fails, first-is}
 use Rattle.format.proofs.Order.{orderly-iff}
-use Rattle.format.proofs.Structure.{well-formed}
+use Rattle.format.proofs.Structure.{well-formed, orderly-of, faultless-of}
 use Rattle.calls.specs.Judging.{flowTable, commTable, wordHolds, WordHolds, reaches, failingRow, failingClaim, after10, judgeClaims, judgeDocument}
 use Rattle.calls.specs.Exact.{RowKeeps, RulesHold, FirstBroken, ClaimHolds, ClaimsHold, FirstFailing}
 
 -- a well-formed document has a row, and its program is well-formed
 pub rows-well : (d : Document) → So (wellFormed d) → WellFormed (d .rows) × (0 < length (d .rows))
 unfolding wellFormed
-rows-well d w = (well-formed d (none-found (structureFault d) (and-right (orderly d) _ w)), some-row (d .rows) (orderly-iff d .0 (and-left (orderly d) _ w) .0))
+rows-well d w = (well-formed d (faultless-of d w), some-row (d .rows) (orderly-iff d .0 (orderly-of d w) .0))
   where
-    none-found : (o : Option Refusal) → So (elim o [ none ↦ true | some r ↦ false ]) → o ≡ none
-    none-found none t = refl
-    none-found (some r) t = absurd (false≢true t)
-
     some-row : (p : List Row) → So (present p) → 0 < length p
     some-row [] t = absurd (false≢true (unfold present in t))
     some-row (x ∷ xs) t = omega arith

@@ -21,9 +21,8 @@ use Rattle.format.specs.Print.{documentText}
 use Rattle.format.specs.WellFormed.{wellFormed}
 use Rattle.calls.specs.declared.Counts.{Counts}
 use Rattle.calls.specs.declared.LoadAnswer.{LoadAnswer}
-use Rattle.calls.specs.declared.JudgeAnswer.{JudgeAnswer}
 use Rattle.calls.specs.declared.WriteAnswer.{WriteAnswer}
-use Rattle.calls.specs.Answers.{Answer, turnedBack, answered, refusalAnswer, loadAnswer, judgeAnswer, writeAnswer}
+use Rattle.calls.specs.Answers.{turnedBack, answered, refusalAnswer, loadAnswer, judgeAnswer, writeAnswer}
 use Rattle.calls.specs.Layout.{storeSize}
 use Rattle.calls.specs.Calls.{counts, load, judge, write}
 use Rattle.calls.specs.Exact.{RulesHold, ClaimsHold}

@@ -12,7 +12,7 @@ use Rattle.program.specs.Walk.{CanShare, Holds, sendPlace, receivePlace}
 use Rattle.program.specs.Verdict.{reach, reached, verdict}
 use Rattle.format.specs.declared.Reason.the-variants.{FlowRuleFails, ClaimFails}
 use Rattle.format.specs.Refusals.{refusal, Result, refused, accepted}
-use Rattle.format.specs.Document.{Claim, Document, tableOf}
+use Rattle.format.specs.Document.{Document, tableOf}
 use Rattle.format.specs.Structure.{rowLine, claimLine, firstFailing}
 
 -- "in the order one-shot, one-to-one, fan-out, fan-in"

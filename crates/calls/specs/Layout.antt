@@ -7,15 +7,14 @@
 use Prim.Native.Nat.{ℕ, zero, suc, _+_, _*_, _-_}
 use mathlib.Core.Bool.{Bool, true, false, _&&_}
 use mathlib.Core.List.{List, [], _∷_, _++_}
-use mathlib.Core.Option.{Option, none, some}
 use lib.ListN.{length, getD, take, drop, replicate}
-use lib.Dec.{ltb, eqb}
+use lib.Dec.{eqb}
 use Rattle.program.specs.declared.Row.{Row}
 use Rattle.program.specs.declared.Bind.{Bind}
 use Rattle.program.specs.declared.Word.{Word}
 use Rattle.program.specs.declared.Word.the-variants.{OneShot, OneToOne, FanOut, FanIn, Many}
 use Rattle.program.specs.Test.{pick}
-use Rattle.program.specs.Each.{every, collect, elem}
+use Rattle.program.specs.Each.{collect, elem}
 use Rattle.program.specs.Program.{Program}
 use Rattle.format.specs.Limits.{rowLimit}
 use Rattle.format.specs.Text.{Bytes}

@@ -1,21 +1,18 @@
 -- The parts of a store: what stands behind its rows, the sets and the claims, and the tests in turn.
-use Prim.Native.Nat.{ℕ, zero, suc, _+_, _*_, _-_, _≤_, _<_}
+use Prim.Native.Nat.{ℕ, zero, suc, _*_, _-_, _<_}
 use native.Mathlib.Omega.{arith}
 use mathlib.Core.Bool.{Bool, true, false, _&&_}
 use mathlib.Core.List.{[], _∷_}
 use mathlib.Core.Path.{_≡_, refl, sym, ap, _∙_}
-use lib.ListN.{length, take, drop, length-drop}
-use lib.Seq.{take-all, take-nil}
+use lib.ListN.{length, take, drop}
+use lib.Seq.{take-nil}
 use lib.Dec.{ltb}
 use borrow.Author.Tests.{lt-ltb, le-ltb}
-use Rattle.program.specs.Each.{every}
 use Rattle.format.specs.Text.{Bytes}
-use Rattle.calls.specs.Layout.{rowSize, rowsSize, setsSize, storeSize, claimsStart, codeLimit}
+use Rattle.calls.specs.Layout.{rowSize, rowsSize, claimsStart, codeLimit}
 use Rattle.calls.specs.Canonical.{rowsSound, restZero, flagsSound, claimsSound}
-use Rattle.byte_tests.proofs.Below.{below-zero}
-
-abbrev Below : ℕ → Bytes → Bool
-Below limit bs = every (λ x. ltb x limit) bs
+use Rattle.byte_tests.proofs.Below.{below-zero, Below}
+use Rattle.store.proofs.Laws.{rest-all}
 
 -- ---- the rest
 
@@ -33,9 +30,9 @@ pub flags-are : (s : Bytes) → flagsSound s ≡ Below 2 (take (claimsStart - ro
 unfolding flagsSound
 flags-are s = refl
 
-pub claims-are : (s : Bytes) → claimsSound s ≡ Below codeLimit (take (length s - (claimsStart)) (drop (claimsStart) s))
+pub claims-are : (s : Bytes) → claimsSound s ≡ Below codeLimit (take (length s - claimsStart) (drop claimsStart s))
 unfolding claimsSound
-claims-are s = ap (Below codeLimit) (sym (take-all (length s - (claimsStart)) (drop (claimsStart) s) (rw (length-drop (claimsStart) s) (omega arith))))
+claims-are s = ap (Below codeLimit) (sym (rest-all s claimsStart))
 
 -- ---- the tests in turn
 
@@ -50,7 +47,7 @@ module _ (s : Bytes) (n : ℕ) where
   flagsPart = take (claimsStart - rowsSize) (drop rowsSize s)
 
   abbrev pub claimsPart : Bytes
-  claimsPart = take (length s - (claimsStart)) (drop (claimsStart) s)
+  claimsPart = take (length s - claimsStart) (drop claimsStart s)
 
   above : (n ≡ 0 → ⊥) → ltb 0 n ≡ true
   above h = lt-ltb 0 n (go n h)

@@ -1,17 +1,15 @@
 -- The claims in turn: one claim more, and the first that fails.
-use Prim.Native.Nat.{ℕ, zero, suc, _+_, _-_, _<_, _≤_}
+use Prim.Native.Nat.{ℕ, suc, _+_, _-_, _<_, _≤_}
 use native.Mathlib.Omega.{arith}
 use native.Mathlib.Nat.{add-zero}
 use mathlib.Core.Bool.{Bool, true, false}
 use mathlib.Core.List.{List, [], _∷_}
 use mathlib.Core.Option.{Option, none, some}
-use mathlib.Core.Path.{_≡_, refl, sym, ap, _∙_}
+use mathlib.Core.Path.{_≡_, sym, ap}
 use lib.ListN.{length, take, drop}
-use lib.Dec.{eqb}
-use borrow.Author.Tests.{eq-eqb, ne-eqb}
-use Rattle.program.specs.Test.{pick}
+use borrow.Author.Tests.{ne-eqb}
 use Rattle.format.specs.declared.Reason.the-variants.{ClaimFails}
-use Rattle.format.specs.Refusals.{refusal, refused, accepted}
+use Rattle.format.specs.Refusals.{refusal}
 use Rattle.format.specs.Limits.{rowLimit}
 use Rattle.format.specs.Text.{Bytes, byteAt}
 use Rattle.format.specs.Document.{Claim}

@@ -1,13 +1,13 @@
 -- Reading and printing are inverse: load takes exactly the texts of well-formed documents.
 use Prim.Native.Nat.{ℕ, zero, suc, _+_, _<_, _≤_}
-use mathlib.Core.Bool.{Bool, true, false, not, _&&_, So, false≢true}
+use mathlib.Core.Bool.{Bool, true, false, _&&_, So, false≢true}
 use mathlib.Core.List.{List, [], _∷_, _++_, map, append-assoc, append-nil}
 use mathlib.Core.Option.{Option, none, some}
 use mathlib.Core.Path.{_≡_, refl, sym, ap, _∙_, subst}
 use mathlib.Core.Logic.{_↔_}
 use native.Mathlib.Omega.{arith}
 use native.Mathlib.Nat.{add-zero, zero-add}
-use lib.ListN.{length, drop, length-append}
+use lib.ListN.{length, length-append}
 use lib.Seq.{drop-length}
 use lib.Dec.{ltb, eqb}
 use borrow.Author.Tests.{eqb-true, eq-eqb, ne-eqb, ltb-true, ltb-false, le-ltb, not-false, not-true}
@@ -23,17 +23,17 @@ use Rattle.format.specs.declared.Refusal.{Refusal}
 use Rattle.format.specs.Limits.{rowLimit, byteLimit}
 use Rattle.format.specs.Refusals.{refusal, Result, refused, accepted}
 use Rattle.format.specs.Text.{Bytes, ascii, expect}
-use Rattle.format.specs.Document.{Entry, Claim, Document, Line, row, flow, comm, claim}
+use Rattle.format.specs.Document.{Entry, Document, Line, row, flow, comm, claim}
 use Rattle.format.specs.Print.{lineText, rowLines, linesOf, header, documentText}
 use Rattle.format.specs.Read.{present, rising, rowNumbers, setRows, lineNumbers, aboveLimit, lineFault, add, noLines, readLine, readLines, readFile}
 use Rattle.format.specs.Structure.{structureFault}
 use Rattle.format.specs.WellFormed.{entriesRise, orderly, wellFormed}
 use Rattle.format.specs.Check.{checkStructure, checkAny, check}
 use Rattle.format.proofs.Stands.{Stands, stands-nil, stands-append, stands-left, stands-right, stands-end, stands-within, expect-found, expect-stands}
-use Rattle.format.proofs.Sets.{RowMember, FirstMember}
-use Rattle.format.proofs.Lines.{Written, SetReadable, Readable, line-found, line-stands}
-use Rattle.format.proofs.Rising.{every-head, every-tail, every-left, every-right, every-unmap}
-use Rattle.format.proofs.Order.{Faultless, faultless-iff, Partly, orderly-iff, lines-add, add-partly, Leads, end, step, document-leads}
+use Rattle.format.proofs.Sets.{RowMember}
+use Rattle.format.proofs.Lines.{SetReadable, Readable, line-found, line-stands}
+use Rattle.format.proofs.Rising.{every-head, every-tail}
+use Rattle.format.proofs.Order.{faultless-iff, Partly, orderly-iff, lines-add, add-partly, Leads, end, step, document-leads}
 
 -- ---- the lines of an orderly document can be read
 

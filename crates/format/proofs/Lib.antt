@@ -1,6 +1,7 @@
 -- Theorems about the definitions of specs/.
 pub mod Stands
 pub mod Number
+pub mod Lengths
 pub mod Rows
 pub mod Sets
 pub mod Lines

@@ -1,11 +1,10 @@
 -- A line is read exactly where it stands.
-use Prim.Native.Nat.{ℕ, zero, suc, _+_, _<_, _≤_}
+use Prim.Native.Nat.{ℕ, _+_, _<_}
 use Prim.Native.String.{String}
-use mathlib.Core.Bool.{Bool, true, false, So}
+use mathlib.Core.Bool.{So}
 use mathlib.Core.List.{List, [], _∷_, _++_}
-use mathlib.Core.Option.{Option, none, some}
+use mathlib.Core.Option.{some}
 use mathlib.Core.Path.{_≡_, refl}
-use native.Mathlib.Omega.{arith}
 use lib.ListN.{length}
 use Rattle.program.specs.declared.Word.{Word}
 use Rattle.program.specs.declared.Word.the-variants.{OneShot, OneToOne, FanOut, FanIn, Many}
@@ -14,12 +13,12 @@ use Rattle.program.specs.Each.{Member, here, there, every, Each, nil, _&_}
 use Rattle.program.proofs.Maybe.{Found, found, found-bind}
 use Rattle.format.specs.declared.Section.{Section}
 use Rattle.format.specs.declared.Section.the-variants.{Rows, Flows, Comms, Claims}
-use Rattle.format.specs.Text.{Bytes, ascii, digitOf, argument, expect, oneOf, readArgument}
-use Rattle.format.specs.Document.{Entry, Claim, Line, row, flow, comm, claim}
+use Rattle.format.specs.Text.{Bytes, ascii, digitOf, argument, oneOf}
+use Rattle.format.specs.Document.{Line, row, flow, comm, claim}
 use Rattle.format.specs.Print.{rowText, setText, wordText, lineText}
 use Rattle.format.specs.Read.{present, rowNumbers, claimWords, lineWords, readContent, readLine}
 use Rattle.format.proofs.Stands.{Stands, stands-append, stands-left, stands-right, expect-found, expect-stands, clash, nonzero, apart, one-of-found, one-of-stands}
-use Rattle.format.proofs.Number.{NoDigit, no-digit, argument-found, argument-stands}
+use Rattle.format.proofs.Number.{no-digit, argument-found, argument-stands}
 use Rattle.format.proofs.Rows.{row-found, row-stands}
 use Rattle.format.proofs.Sets.{RowMember, FirstMember, set-found, set-stands}
 

@@ -1,20 +1,18 @@
 -- A number is read exactly where it stands in its own digits, with no digit behind it.
 use Prim.Native.Nat.{ℕ, zero, suc, _+_, _-_, _*_, _/_, _%_, _<_, _≤_}
-use mathlib.Core.Bool.{Bool, true, false, So}
+use mathlib.Core.Bool.{So}
 use mathlib.Core.List.{List, [], _∷_, _++_}
-use mathlib.Core.Option.{Option, none, some}
-use mathlib.Core.Path.{_≡_, refl, sym, ap, ap₂, _∙_}
+use mathlib.Core.Option.{some}
+use mathlib.Core.Path.{_≡_, refl, sym, ap, _∙_}
 use native.Mathlib.Omega.{arith}
 use native.Mathlib.Decide.{decLt, ℕ-discrete}
 use native.Mathlib.Nat.{add-zero}
-use lib.ListN.{length, getD, drop}
-use lib.Seq.{getD-drop}
-use lib.Dec.{ltb}
+use lib.ListN.{length}
 use borrow.Author.Tests.{lt-ltb, le-ltb, ne-eqb}
 use Rattle.program.specs.Maybe.{_>>=_}
 use Rattle.program.specs.Each.{every, Each, nil, _&_}
 use Rattle.program.proofs.Maybe.{Found, nothing, found, found-bind, found-map}
-use Rattle.format.specs.Text.{Bytes, byteAt, place, digits, digitOf, digitAt, numberOf, readNumber, expect, argument, readArgument, arguments, readArguments}
+use Rattle.format.specs.Text.{Bytes, byteAt, place, digits, digitOf, digitAt, numberOf, readNumber, argument, readArgument, arguments, readArguments}
 use Rattle.format.proofs.Stands.{Stands, stands-nil, stands-cons, stands-append, stands-left, stands-right, stands-tail, byte-of, expect-found, expect-stands, clash}
 
 -- ---- the digits of a number of one, two and three places

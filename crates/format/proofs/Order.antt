@@ -1,21 +1,19 @@
 -- The order of lines: a line without fault keeps a document orderly, and an orderly document's lines have no fault in turn.
-use Prim.Native.Nat.{ℕ, zero, suc, _+_, _<_}
-use mathlib.Core.Bool.{Bool, true, false, not, _&&_, _||_, So, false≢true}
+use Prim.Native.Nat.{ℕ, suc, _+_}
+use mathlib.Core.Bool.{Bool, true, false, not, _&&_, _||_, So}
 use mathlib.Core.List.{List, [], _∷_, _++_, map, append-assoc, append-nil, map-append}
-use mathlib.Core.Option.{Option, none, some}
+use mathlib.Core.Option.{none, some}
 use mathlib.Core.Path.{_≡_, refl, sym, ap, _∙_}
 use mathlib.Core.Logic.{_↔_}
 use native.Mathlib.Omega.{arith}
-use native.Mathlib.Nat.{add-zero, add-suc, suc-add, zero-add}
+use native.Mathlib.Nat.{add-zero, zero-add}
 use lib.ListN.{length, length-append}
 use lib.Dec.{ltb, eqb}
 use borrow.Author.Tests.{eqb-true, eq-eqb, not-true, not-false}
-use Rattle.program.specs.declared.Row.{Row}
 use Rattle.program.specs.Test.{pick}
 use Rattle.program.specs.Each.{every}
 use Rattle.program.specs.Program.{Program}
-use Rattle.program.proofs.Test.{and-left, and-right, and-intro}
-use Rattle.format.specs.declared.Reason.{Reason}
+use Rattle.program.proofs.Test.{and-left, and-right, and-intro, or-neither}
 use Rattle.format.specs.declared.Reason.the-variants.{NotALine, AboveLimit, OutOfCount, NotRising}
 use Rattle.format.specs.Document.{Entry, Claim, Document, Line, row, flow, comm, claim}
 use Rattle.format.specs.Print.{rowLines, linesOf}
@@ -71,22 +69,17 @@ row-lines-append r [] ys = ap (λ (n : ℕ). rowLines n ys) (sym (add-zero r))
 row-lines-append r (x ∷ xs) ys =
     ap (λ (ls : List Line). row r x ∷ ls) (row-lines-append (suc r) xs ys ∙ ap (λ (n : ℕ). rowLines (suc r) xs ++ rowLines n ys) (omega arith))
 
--- both tests of a line of a later section fail
-or-false : (a b : Bool) → (a || b) ≡ false → (a ≡ false) × (b ≡ false)
-or-false true b e = absurd (false≢true (sym e))
-or-false false b e = (refl, e)
-
 -- the lines with one more, where no later section has begun
 pub lines-add : (d : Document) (l : Line) → Faultless d l → linesOf (add d l) ≡ linesOf d ++ (l ∷ [])
 unfolding linesOf add outOfOrder outOfCount rowLines
 lines-add d (row r x) h =
-    let (fc, k) = or-false (present (d .flows) || present (d .comms)) (present (d .claims)) (h .ordered) in
-    let (f, c) = or-false (present (d .flows)) (present (d .comms)) fc in
+    let (fc, k) = or-neither (present (d .flows) || present (d .comms)) (present (d .claims)) (h .ordered) in
+    let (f, c) = or-neither (present (d .flows)) (present (d .comms)) fc in
     let n : length (d .rows) ≡ r = sym (eqb-true r (length (d .rows)) (not-false (eqb r (length (d .rows))) (h .counted))) in
     rw (present-cases (d .flows) f, present-cases (d .comms) c, present-cases (d .claims) k)
     (simp (append-nil) (row-lines-append 0 (d .rows) (x ∷ []) ∙ ap (λ (m : ℕ). rowLines 0 (d .rows) ++ (row m x ∷ [])) (zero-add (length (d .rows)) ∙ n)))
 lines-add d (flow e) h =
-    let (c, k) = or-false (present (d .comms)) (present (d .claims)) (h .ordered) in
+    let (c, k) = or-neither (present (d .comms)) (present (d .claims)) (h .ordered) in
     rw (present-cases (d .comms) c, present-cases (d .claims) k) (simp (append-nil, map-append flow (d .flows) (e ∷ []), append-assoc))
 lines-add d (comm e) h = rw (present-cases (d .claims) (h .ordered)) (simp (append-nil, map-append comm (d .comms) (e ∷ []), append-assoc))
 lines-add d (claim c) h = simp (map-append claim (d .claims) (c ∷ []), append-assoc)

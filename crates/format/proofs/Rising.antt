@@ -1,12 +1,10 @@
 -- Tests over lists that grow at their end: every, rising.
-use Prim.Native.Nat.{ℕ, _<_}
-use mathlib.Core.Bool.{Bool, true, false, not, _&&_, So, false≢true}
+use Prim.Native.Nat.{ℕ}
+use mathlib.Core.Bool.{Bool, true, false, So, false≢true}
 use mathlib.Core.List.{List, [], _∷_, _++_, map}
 use mathlib.Core.Path.{_≡_, refl, sym}
-use mathlib.Core.Logic.{_↔_}
 use lib.Dec.{ltb}
-use Rattle.program.specs.Each.{every, Each, nil, _&_}
-use Rattle.program.proofs.Each.{every-elim}
+use Rattle.program.specs.Each.{every}
 use Rattle.program.proofs.Test.{and-left, and-right, and-intro}
 use Rattle.format.specs.Read.{present, rising}
 

@@ -1,9 +1,9 @@
 -- A form and a row are read exactly where they stand.
-use Prim.Native.Nat.{ℕ, zero, suc, _+_, _<_}
+use Prim.Native.Nat.{ℕ, _+_, _<_}
 use Prim.Native.String.{String}
 use mathlib.Core.Bool.{Bool, true, false}
 use mathlib.Core.List.{List, [], _∷_, _++_}
-use mathlib.Core.Option.{Option, none, some}
+use mathlib.Core.Option.{Option, some}
 use mathlib.Core.Path.{_≡_, refl}
 use native.Mathlib.Omega.{arith}
 use lib.ListN.{length, getD}
@@ -14,13 +14,13 @@ use Rattle.program.specs.declared.Form.the-variants.{Chan, Send, Recv, Pair, Le
 use Rattle.program.specs.Maybe.{_>>=_}
 use Rattle.program.specs.Each.{Member, here, there, every, Each, nil, _&_}
 use Rattle.program.proofs.Each.{each-imp, each-left, each-right}
-use Rattle.program.proofs.Maybe.{Found, nothing, found, found-bind, found-map}
-use Rattle.format.specs.Text.{Bytes, ascii, digitOf, argument, arguments, expect, oneOf, readArgument, readArguments}
+use Rattle.program.proofs.Maybe.{Found, found, found-bind}
+use Rattle.format.specs.Text.{Bytes, ascii, digitOf, argument, arguments}
 use Rattle.format.specs.Forms.{formCode, arity, formOf}
 use Rattle.format.specs.Print.{formWord, formNumbers, formText, rowText}
 use Rattle.format.specs.Read.{formWords, readForm, rowWords, readResult, readBind, readRow, rowNumbers}
 use Rattle.format.proofs.Stands.{Stands, stands-append, stands-left, stands-right, expect-found, expect-stands, clash, nonzero, apart, one-of-found, one-of-stands}
-use Rattle.format.proofs.Number.{NoDigit, no-digit, argument-found, argument-stands, arguments-found, arguments-stands}
+use Rattle.format.proofs.Number.{no-digit, argument-found, argument-stands, arguments-found, arguments-stands}
 
 -- as many numbers as a form holds are all of the list
 only-0 : (ns : List ℕ) → length ns ≡ 0 → _≡_ {A = List ℕ} [] ns

@@ -1,6 +1,6 @@
 -- A set is read exactly where it stands.
-use Prim.Native.Nat.{ℕ, zero, suc, _+_, _<_, _≤_}
-use mathlib.Core.Bool.{Bool, true, false, So}
+use Prim.Native.Nat.{ℕ, zero, suc, _+_, _<_}
+use mathlib.Core.Bool.{So}
 use mathlib.Core.List.{List, [], _∷_, _++_}
 use mathlib.Core.Option.{Option, none, some}
 use mathlib.Core.Path.{_≡_, refl}
@@ -8,11 +8,11 @@ use native.Mathlib.Omega.{arith}
 use lib.ListN.{length, length-append}
 use Rattle.program.specs.Maybe.{_>>=_}
 use Rattle.program.specs.Each.{every, Each, nil, _&_}
-use Rattle.program.proofs.Maybe.{Found, nothing, found, found-bind, found-map}
-use Rattle.format.specs.Text.{Bytes, ascii, byteAt, digits, digitOf, place, argument, expect, readNumber, readArgument}
+use Rattle.program.proofs.Maybe.{Found, nothing, found, found-bind}
+use Rattle.format.specs.Text.{Bytes, ascii, digits, digitOf, argument, expect}
 use Rattle.format.specs.Print.{memberText, membersText, setText}
 use Rattle.format.specs.Read.{present, readMembers, readFirst, readSet}
-use Rattle.format.proofs.Stands.{Stands, stands-append, stands-left, stands-right, stands-tail, stands-within, byte-of, expect-found, expect-stands, clash, expect-clash}
+use Rattle.format.proofs.Stands.{Stands, stands-append, stands-left, stands-right, stands-tail, stands-within, expect-found, expect-stands, clash, expect-clash}
 use Rattle.format.proofs.Number.{NoDigit, no-digit, number-found, number-stands, digits-clash, argument-found, argument-stands}
 
 -- a member that can be read behind the first, and the first

@@ -1,11 +1,10 @@
 -- A text that stands at a position of a file: fixed words are read exactly where they stand.
-use Prim.Native.Nat.{ℕ, zero, suc, _+_, _-_, _<_, _≤_}
+use Prim.Native.Nat.{ℕ, _+_, _-_, _<_, _≤_}
 use Prim.Native.String.{String}
 use mathlib.Core.Bool.{Bool, true, false, not, _&&_, _||_, So, false≢true}
 use mathlib.Core.List.{List, [], _∷_, _++_, append-assoc, append-nil}
 use mathlib.Core.Option.{Option, none, some}
 use mathlib.Core.Path.{_≡_, refl, sym, ap, _∙_}
-use mathlib.Core.Logic.{⊎-elim}
 use native.Mathlib.Omega.{arith}
 use native.Mathlib.Numerals.{add-one}
 use native.Mathlib.Nat.{add-zero}
@@ -13,11 +12,11 @@ use native.Mathlib.Decide.{decLt}
 use lib.ListN.{length, getD, drop, length-append, length-drop, List·getD-eq-default}
 use lib.Seq.{getD-drop, drop-drop, drop-cons, drop-append-seam, drop-length}
 use lib.Dec.{eqb, ltb}
-use borrow.Author.Tests.{eqb-true, eq-eqb, ne-eqb, ltb-true, eqb-false, not-true}
+use borrow.Author.Tests.{eqb-true, eq-eqb, ltb-true}
 use Rattle.program.specs.Each.{Member, here, there, every, Each, _&_}
 use Rattle.program.proofs.Each.{each-at, every-elim}
 use Rattle.program.proofs.Maybe.{Found, nothing, found, found-map}
-use Rattle.program.proofs.Test.{and-left, and-right, or-cases}
+use Rattle.program.proofs.Test.{and-left, and-right}
 use Rattle.format.specs.Text.{Bytes, ascii, byteAt, expect, oneOf}
 
 -- the text stands in s at a position; next is the position past it

@@ -1,6 +1,6 @@
 -- What refusals 6 and 7 leave: every pointer leads to a later row, no row is pointed at twice, no name is bound twice.
 use Prim.Native.Nat.{ℕ, zero, suc, _+_, _<_, _≤_}
-use mathlib.Core.Bool.{Bool, true, false, not, _&&_, _||_, So, false≢true}
+use mathlib.Core.Bool.{true, false, not, _&&_, _||_, So, false≢true}
 use mathlib.Core.List.{List, [], _∷_, _++_, append-assoc, append-nil}
 use mathlib.Core.Option.{Option, none, some}
 use mathlib.Core.Path.{_≡_, refl, sym, ap, _∙_}
@@ -11,22 +11,19 @@ use lib.Seq.{take-suc, take-all}
 use lib.Dec.{ltb, eqb}
 use borrow.Author.Tests.{not-false, not-true, ne-eqb, eqb-false}
 use Rattle.program.specs.declared.Row.{Row}
-use Rattle.program.specs.Test.{all, least}
+use Rattle.program.specs.Test.{least}
 use Rattle.program.specs.Maybe.{_>>=_, _<|>_}
 use Rattle.program.specs.Each.{Each, every, collect, elem}
 use Rattle.program.specs.Program.{Program, rowAt, pointers, binders}
-use Rattle.program.proofs.Test.{and-left, and-right, and-intro, not-intro, not-elim, or-cases, or-left, or-right, all-intro, least-none}
+use Rattle.program.proofs.Test.{and-left, and-right, and-intro, not-intro, or-cases, or-left, or-right, all-intro, least-none, or-neither}
 use Rattle.program.proofs.WellFormed.{distinct, pointersRise, WellFormed}
-use Rattle.format.specs.declared.Reason.the-variants.{WrongPointer, BoundTwice, OutOfScope, NotAllowed}
+use Rattle.program.proofs.Each.{collect-append, elem-append}
 use Rattle.format.specs.declared.Refusal.{Refusal}
 use Rattle.format.specs.Document.{Entry, Document, withTables}
 use Rattle.format.specs.Structure.{wrongPointers, pointerFault, boundEarlier, binderFault, scopeLine, flowAllowed, commAllowed, claimAllowed, firstFailing, flowLine, commLine, claimLine}
 use Rattle.format.specs.Structure.{notAllowed, structureFault}
+use Rattle.format.specs.WellFormed.{orderly, wellFormed}
 use Rattle.format.proofs.First.{none-first, first-none}
-
-or-false : (a b : Bool) → (a || b) ≡ false → (a ≡ false) × (b ≡ false)
-or-false true b e = absurd (false≢true (sym e))
-or-false false b e = (refl, e)
 
 -- ---- 6: the rows that one row points at
 
@@ -35,27 +32,18 @@ right-pointers : (n r : ℕ) (earlier ts : List ℕ) → wrongPointers n r earli
 unfolding wrongPointers boundEarlier every
 right-pointers n r earlier [] e = (refl, refl)
 right-pointers n r earlier (t ∷ ts) e =
-    let (h, k) = or-false (not (ltb r t && ltb t n) || elem t earlier) (wrongPointers n r (t ∷ earlier) ts) e in
-    let (i, j) = or-false (not (ltb r t && ltb t n)) (elem t earlier) h in
+    let (h, k) = or-neither (not (ltb r t && ltb t n) || elem t earlier) (wrongPointers n r (t ∷ earlier) ts) e in
+    let (i, j) = or-neither (not (ltb r t && ltb t n)) (elem t earlier) h in
     let (v, w) = right-pointers n r (t ∷ earlier) ts k in
     (and-intro (not-false (ltb r t && ltb t n) i) v, rw (j, w))
 
 -- ---- numbers that are each new are all different
 
-elem-append : (n : ℕ) (xs ys : List ℕ) → elem n (xs ++ ys) ≡ (elem n xs || elem n ys)
-unfolding elem
-elem-append n [] ys = refl
-elem-append n (x ∷ xs) ys = ap (λ (b : Bool). eqb n x || b) (elem-append n xs ys) ∙ assoc (eqb n x) (elem n xs) (elem n ys)
-  where
-    assoc : (a b c : Bool) → (a || (b || c)) ≡ (a || b || c)
-    assoc true b c = refl
-    assoc false b c = refl
-
 distinct-snoc : (xs : List ℕ) (y : ℕ) → So (distinct xs) → elem y xs ≡ false → So (distinct (xs ++ (y ∷ [])))
 unfolding distinct elem
 distinct-snoc [] y h e = refl
 distinct-snoc (x ∷ xs) y h e =
-    let (i, j) = or-false (eqb y x) (elem y xs) e in
+    let (i, j) = or-neither (eqb y x) (elem y xs) e in
     let k : eqb x y ≡ false = ne-eqb x y (λ q. eqb-false y x i (sym q)) in
     let l : elem x xs ≡ false = not-true (elem x xs) (and-left (not (elem x xs)) (distinct xs) h) in
     rw (elem-append x xs (y ∷ []), l, k) (distinct-snoc xs y (and-right (not (elem x xs)) (distinct xs) h) j)
@@ -65,7 +53,7 @@ fresh-distinct : (xs ys earlier : List ℕ) → So (distinct xs) → ((n : ℕ) 
 unfolding boundEarlier elem
 fresh-distinct xs [] earlier h k e = rw (append-nil) h
 fresh-distinct xs (y ∷ ys) earlier h k e =
-    let (i, j) = or-false (elem y earlier) (boundEarlier (y ∷ earlier) ys) e in
+    let (i, j) = or-neither (elem y earlier) (boundEarlier (y ∷ earlier) ys) e in
     let new : elem y xs ≡ false = not-true (elem y xs) (not-intro (elem y xs) (λ t. false≢true (sym i ∙ k y t))) in
     rw (append-assoc xs (y ∷ []) ys) at (fresh-distinct (xs ++ (y ∷ [])) ys (y ∷ earlier) (distinct-snoc xs y h new) (λ n t. within n (rw (elem-append n xs (y ∷ [])) at t)) j)
   where
@@ -76,14 +64,9 @@ fresh-distinct xs (y ∷ ys) earlier h k e =
 -- ---- over all rows
 
 module _ (f : Row → List ℕ) (p : Program) where
-  collect-append : (xs ys : Program) → collect f (xs ++ ys) ≡ collect f xs ++ collect f ys
-  unfolding collect
-  collect-append [] ys = refl
-  collect-append (x ∷ xs) ys = ap (λ (l : List ℕ). f x ++ l) (collect-append xs ys) ∙ sym (append-assoc (f x) (collect f xs) (collect f ys))
-
   collect-next : (r : ℕ) → r < length p → collect f (take (suc r) p) ≡ collect f (take r p) ++ f (rowAt p r)
   unfolding collect rowAt
-  collect-next r l = ap (collect f) (take-suc p r (Row.Result 0) l) ∙ collect-append (take r p) (getD p r (Row.Result 0) ∷ [])
+  collect-next r l = ap (collect f) (take-suc p r (Row.Result 0) l) ∙ collect-append f (take r p) (getD p r (Row.Result 0) ∷ [])
       ∙ ap (λ (l : List ℕ). collect f (take r p) ++ l) (append-nil (f (getD p r (Row.Result 0))))
 
   distinct-rows : ((r : ℕ) → r < length p → boundEarlier (collect f (take r p)) (f (rowAt p r)) ≡ false) → (r : ℕ) → r ≤ length p → So (distinct (collect f (take r p)))
@@ -141,7 +124,7 @@ well-formed d e =
         × (boundEarlier (collect pointers (take r (d .rows))) (pointers (rowAt (d .rows) r)) ≡ false)
     pointed r l =
         right-pointers (length (d .rows)) r (collect pointers (take r (d .rows))) (pointers (rowAt (d .rows) r))
-        (or-false (wrongPointers (length (d .rows)) r (collect pointers (take r (d .rows))) (pointers (rowAt (d .rows) r))) _ (structured d e .pointers-right r l) .0)
+        (or-neither (wrongPointers (length (d .rows)) r (collect pointers (take r (d .rows))) (pointers (rowAt (d .rows) r))) _ (structured d e .pointers-right r l) .0)
 
 -- ---- other flow and comm lines
 
@@ -172,3 +155,18 @@ other-tables d flows comms e f c = last-other _ _ _ _ _ e (rw allowed-here)
       none-first (claimAllowed (d .rows)) (claimLine (withTables d flows comms)) (d .claims) (first-none (claimAllowed (d .rows)) (claimLine d) (d .claims) (claims-fine d
           (structured d e .allowed))),
     )
+
+-- ---- the two parts of a well-formed document
+
+module _ (d : Document) (w : So (wellFormed d)) where
+  pub orderly-of : So (orderly d)
+  unfolding wellFormed
+  orderly-of = and-left (orderly d) _ w
+
+  pub faultless-of : structureFault d ≡ none
+  unfolding wellFormed
+  faultless-of = go (structureFault d) (and-right (orderly d) _ w)
+    where
+      go : (o : Option Refusal) → So (elim o [ none ↦ true | some r ↦ false ]) → o ≡ none
+      go none t = refl
+      go (some r) t = absurd (false≢true t)

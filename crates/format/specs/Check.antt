@@ -1,10 +1,9 @@
 -- Which files load takes: refusals 1 to 9 in their order, or the document.
 use mathlib.Core.Bool.{true, false}
-use mathlib.Core.Option.{Option, none, some}
+use mathlib.Core.Option.{none, some}
 use lib.ListN.{length}
 use lib.Dec.{ltb}
 use Rattle.format.specs.declared.Reason.the-variants.{TooLong}
-use Rattle.format.specs.declared.Refusal.{Refusal}
 use Rattle.format.specs.Limits.{byteLimit}
 use Rattle.format.specs.Refusals.{refusal, Result, refused, accepted}
 use Rattle.format.specs.Text.{Bytes}

@@ -11,7 +11,7 @@ use Rattle.program.specs.declared.Word.the-variants.{OneShot, OneToOne, FanOut,
 use Rattle.program.specs.Each.{collect}
 use Rattle.program.specs.Program.{Program}
 use Rattle.format.specs.Text.{Bytes, ascii, digits, argument, arguments}
-use Rattle.format.specs.Document.{Entry, Claim, Document, Line, row, flow, comm, claim}
+use Rattle.format.specs.Document.{Document, Line, row, flow, comm, claim}
 
 -- "A form is one of these fourteen, with exactly its own names and rows"
 unfoldable pub formWord : Form → String

@@ -2,10 +2,10 @@
 use Prim.Native.Nat.{ℕ, zero, suc, _+_}
 use Prim.Native.String.{String}
 use mathlib.Core.Bool.{Bool, true, false, not, _&&_, _||_}
-use mathlib.Core.List.{List, [], _∷_, _++_, map}
+use mathlib.Core.List.{List, [], _∷_, _++_}
 use mathlib.Core.Option.{Option, none, some}
 use lib.ListN.{length}
-use lib.Dec.{ltb, leb, eqb}
+use lib.Dec.{ltb, eqb}
 use Rattle.program.specs.declared.Row.{Row}
 use Rattle.program.specs.declared.Bind.{Bind}
 use Rattle.program.specs.declared.Form.{Form}
@@ -21,7 +21,7 @@ use Rattle.format.specs.declared.Section.the-variants.{Rows, Flows, Comm
 use Rattle.format.specs.Limits.{rowLimit}
 use Rattle.format.specs.Refusals.{refusal, Result, refused, accepted}
 use Rattle.format.specs.Text.{Bytes, ascii, readNumber, expect, oneOf, readArgument, readArguments}
-use Rattle.format.specs.Document.{Entry, Claim, Document, Line, row, flow, comm, claim}
+use Rattle.format.specs.Document.{Document, Line, row, flow, comm, claim}
 use Rattle.format.specs.Forms.{arity, formOf}
 use Rattle.format.specs.Print.{formNumbers, header}
 

@@ -4,7 +4,7 @@ use mathlib.Core.Bool.{Bool, true, false, not, _&&_, _||_}
 use mathlib.Core.List.{List, [], _∷_}
 use mathlib.Core.Option.{Option, none, some}
 use lib.ListN.{length, take}
-use lib.Dec.{ltb, leb}
+use lib.Dec.{ltb}
 use Rattle.program.specs.Test.{pick, least}
 use Rattle.program.specs.Maybe.{_>>=_, _<|>_}
 use Rattle.program.specs.Each.{every, collect, elem}

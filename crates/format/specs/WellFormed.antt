@@ -1,9 +1,8 @@
 -- The documents that a file of any length can say. Orderly: what refusals 2 to 5 ask of the numbers and their order (a row's number is its place, so that it counts from
 -- 0 needs no test). Well-formed: 6 to 9 find nothing either.
-use Prim.Native.Nat.{ℕ}
 use mathlib.Core.Bool.{Bool, true, false, not, _&&_}
 use mathlib.Core.List.{List, map}
-use mathlib.Core.Option.{Option, none, some}
+use mathlib.Core.Option.{none, some}
 use Rattle.program.specs.Each.{every}
 use Rattle.format.specs.Document.{Entry, Claim, Document}
 use Rattle.format.specs.Print.{linesOf}

@@ -4,12 +4,13 @@ use native.Mathlib.Omega.{arith}
 use native.Mathlib.Decide.{decLt, ℕ-discrete}
 use native.Mathlib.Numerals.{add-one}
 use mathlib.Core.Bool.{Bool, true, false, _&&_, _||_, and-false, or-comm}
-use mathlib.Core.Path.{_≡_, refl, sym, ap, _∙_}
+use mathlib.Core.Path.{_≡_, refl, _∙_}
 use lib.ListN.{length, getD, set}
 use lib.Seq.{getD-set-same, getD-set-other}
 use lib.Dec.{eqb, ltb}
 use borrow.Author.Tests.{eq-eqb, ne-eqb, lt-ltb, le-ltb}
-use Rattle.program.specs.Test.{pick, any}
+use Rattle.program.specs.Test.{any}
+use Rattle.program.proofs.Test.{pick-or}
 use Rattle.format.specs.Limits.{rowLimit}
 use Rattle.format.specs.Text.{Bytes}
 use Rattle.grids.specs.Grid.{gridSize, Fills, among, step, AddsPairs}
@@ -51,12 +52,6 @@ module _ (n : ℕ) where
 
 -- ---- marks, one after the other
 
-pick-then : (f g : Bool) (x : ℕ) → pick g 1 (pick f 1 x) ≡ pick (f || g) 1 x
-pick-then true true x = refl
-pick-then true false x = refl
-pick-then false true x = refl
-pick-then false false x = refl
-
 module _ {n : ℕ} where
   pub adds-none : {f : ℕ → ℕ → Bool} (grid : Bytes) → ((r s : ℕ) → r < n → s < n → f r s ≡ false) → AddsPairs n f grid grid
   adds-none {f} grid h = record { kept = kept-all grid; adds = λ r s lr ls. rw (among-none n f r s (h r s)) }
@@ -66,7 +61,7 @@ module _ {n : ℕ} where
 
   pub adds-then : {f g : ℕ → ℕ → Bool} {a b c : Bytes} → AddsPairs n f a b → AddsPairs n g b c → AddsPairs n (λ r s. f r s || g r s) a c
   adds-then {f} {g} h k =
-      record { kept = kept-then (h .kept) (k .kept); adds = λ r s lr ls. k .adds r s lr ls ∙ rw (h .adds r s lr ls, ← (among-or n f g r s)) (pick-then (among n f r s) (among n g r s) _) }
+      record { kept = kept-then (h .kept) (k .kept); adds = λ r s lr ls. k .adds r s lr ls ∙ rw (h .adds r s lr ls, ← (among-or n f g r s)) (pick-or (among n f r s) (among n g r s) _) }
 
   -- what each number below k + 1 gives, k last
   pub adds-next : (f : ℕ → ℕ → ℕ → Bool) (k : ℕ) {a b c : Bytes} → AddsPairs n (λ r s. any k λ q. f q r s) a b → AddsPairs n (f k) b c

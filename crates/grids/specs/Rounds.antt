@@ -1,7 +1,7 @@
 -- A round of Warshall's over a grid of bytes, row by row. All of it speaks of the first n rows.
 use Prim.Native.Nat.{ℕ, _+_, _*_, _<_, _≤_, max}
 use mathlib.Core.Path.{_≡_}
-use lib.ListN.{length, getD}
+use lib.ListN.{getD}
 use lib.Dec.{eqb}
 use Rattle.program.specs.Test.{pick}
 use Rattle.format.specs.Limits.{rowLimit}

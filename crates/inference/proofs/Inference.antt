@@ -3,7 +3,6 @@ use Prim.Native.Nat.{ℕ, zero, suc, _+_, _≤_, _<_}
 use native.Mathlib.Omega.{arith}
 use mathlib.Core.Bool.{Bool, true, false, not, So, false≢true}
 use mathlib.Core.List.{List, [], _∷_, _++_, map, append-assoc}
-use mathlib.Core.Option.{Option, none, some}
 use mathlib.Core.Path.{_≡_, refl, sym, ap, _∙_, subst}
 use mathlib.Core.Logic.{_≢_}
 use lib.ListN.{length, take, drop, take-append-drop}
@@ -16,7 +15,7 @@ use Rattle.program.specs.Program.{Program, bindersOf, binders}
 use Rattle.program.specs.Flow.{Abstract, u, row, Table}
 use Rattle.program.specs.FlowRule.{KeepsAll}
 use Rattle.least.specs.Least.{Variable, name, channel, variableAllowed, memberAllowed, smallest, smallestFlow, smallestComm}
-use Rattle.program.proofs.Test.{and-left, and-right, and-intro}
+use Rattle.program.proofs.Test.{and-intro}
 use Rattle.program.specs.Each.{Each, nil, _&_}
 use Rattle.program.proofs.Each.{each-at, each-imp, each-append, each-left}
 use Rattle.least.proofs.Least.{elem-member, value-bound, chan-bound, smallest-keeps, smallest-lies, smallest-allowed}
@@ -26,14 +25,14 @@ use Rattle.format.specs.Document.{Document, Line, flow, comm, claim, member}
 use Rattle.format.specs.Document as document
 use Rattle.format.specs.Print.{formNumbers, rowLines, linesOf}
 use Rattle.format.specs.Read.{present, rowNumbers, lineNumbers, aboveLimit}
-use Rattle.format.specs.Structure.{flowAllowed, commAllowed, structureFault}
+use Rattle.format.specs.Structure.{flowAllowed, commAllowed}
 use Rattle.format.specs.Structure as structure
 use Rattle.format.specs.declared.Refusal.{Refusal}
 use Rattle.format.specs.WellFormed.{orderly, wellFormed}
 use Rattle.format.specs.Refusals.{Result, refused, accepted}
 use Rattle.format.proofs.Order.{orderly-iff}
 use Rattle.format.proofs.Rising.{every-append, every-left, every-right, every-head, every-tail}
-use Rattle.format.proofs.Structure.{other-tables}
+use Rattle.format.proofs.Structure.{other-tables, orderly-of, faultless-of}
 use Rattle.calls.specs.declared.LoadAnswer.{LoadAnswer}
 use Rattle.calls.specs.Layout.{memberLimit, rowsSize, setsSize, claimsStart, storeSize, counting, padded, rowBytes, setsBytes, claimCode, encode}
 use Rattle.calls.specs.Judging.{flowTable, commTable}
@@ -43,7 +42,7 @@ use Rattle.inference.specs.Inferred.{Inferred, InferIs}
 use Rattle.calls.proofs.Codec.{low, all-fit, rows-bytes-length, encode-length}
 use Rattle.calls.proofs.Codec.Sets.{sets-bytes-length}
 use Rattle.calls.proofs.Canonical.{drop-thrice}
-use Rattle.calls.proofs.Calls.{orderly-of, opened-is, opened-loaded}
+use Rattle.calls.proofs.Calls.{opened-is, opened-loaded}
 use Rattle.calls.specs.Exact.{Closed, RowKeeps, RulesHold, JudgeIs}
 use Rattle.calls.specs.Answers.{Answer, turnedBack, loadAnswer, judgeAnswer}
 use Rattle.calls.proofs.Exact.{opened-iff, closed-is, judge-answers}
@@ -175,13 +174,9 @@ smallest-orderly d o =
 pub smallest-well : (d : Document) → So (wellFormed d) → So (wellFormed (smallestDocument d))
 unfolding wellFormed smallestDocument
 smallest-well d w =
-    and-intro (smallest-orderly d (and-left (orderly d) _ w))
-    (rw (other-tables d (entriesOf (smallestFlow (d .rows))) (entriesOf (smallestComm (d .rows))) (none-found (structureFault d) (and-right (orderly d) _ w)) (flows-allowed (d .rows))
+    and-intro (smallest-orderly d (orderly-of d w))
+    (rw (other-tables d (entriesOf (smallestFlow (d .rows))) (entriesOf (smallestComm (d .rows))) (faultless-of d w) (flows-allowed (d .rows))
     (comms-allowed (d .rows))))
-  where
-    none-found : (o : Option Refusal) → So (elim o [ none ↦ true | some r ↦ false ]) → o ≡ none
-    none-found none t = refl
-    none-found (some r) t = absurd (false≢true t)
 
 -- ---- the call
 

@@ -24,6 +24,11 @@ use Rattle.calls.proofs.Codec.Sparse.{either, counting-length, counting-each}
 use Rattle.calls.proofs.Canonical.Lists.{chunks-iff, each-collect, below-iff}
 use Rattle.calls.proofs.Canonical.Sets.{flag-again, set-again, sets-within, sets-iff}
 
+pub abstract-member : (a : Abstract) → abstractOf (member a) ≡ a
+unfolding abstractOf member
+abstract-member u = refl
+abstract-member (row r) = refl
+
 counting-at : (n i : ℕ) (f : ℕ → ℕ) (j : ℕ) → j < n → getD (counting n i f) j 0 ≡ f (i + j)
 unfolding counting
 counting-at zero i f j l = absurd (omega arith)
@@ -123,11 +128,6 @@ module _ (t : Table) where
   members-past : (n : ℕ) → rowLimit ≤ n → membersAt (entriesOf t) n ≡ []
   unfolding entriesOf
   members-past n l = members-above n (decodeSets rowLimit 0 (tableFlags rowLimit 0 t)) (each-imp (λ e h. omega arith) (sets-within rowLimit 0 (tableFlags rowLimit 0 t) .0))
-
-  abstract-member : (a : Abstract) → abstractOf (member a) ≡ a
-  unfolding abstractOf member
-  abstract-member u = refl
-  abstract-member (row r) = refl
 
   not-so : (b : Bool) → (So b → ⊥) → false ≡ b
   not-so true h = absurd (h refl)

@@ -1,5 +1,4 @@
 -- What infer answers and leaves of any store: the propositions that the promises of No. 1 are stated with, in document 01's numbers.
-use Prim.Native.Nat.{ℕ}
 use mathlib.Core.Bool.{So}
 use mathlib.Core.List.{[], _∷_}
 use mathlib.Core.Path.{_≡_}

@@ -1,32 +1,29 @@
 -- Judge and verdict of the document in a store, by the store's bytes.
-use Prim.Native.Nat.{ℕ, zero, suc, _+_, _-_, _*_, _<_, _≤_}
+use Prim.Native.Nat.{ℕ, _+_, _-_, _<_, _≤_}
 use native.Mathlib.Omega.{arith}
 use mathlib.Core.Bool.{Bool, true, false, not}
-use mathlib.Core.List.{List, [], _∷_, map}
+use mathlib.Core.List.{List, map}
 use mathlib.Core.Option.{Option, none, some}
-use mathlib.Core.Path.{_≡_, refl, sym, ap, ap₂, _∙_, fun-ext}
+use mathlib.Core.Path.{_≡_, refl, sym, ap, _∙_, fun-ext}
 use lib.ListN.{length, take, drop, length-drop}
 use lib.Seq.{take-all}
 use Rattle.program.specs.declared.Word.{Word}
 use Rattle.program.specs.Test.{least}
 use Rattle.program.specs.Program.{Program, chanRow}
-use Rattle.program.specs.Flow.{Table, keepsAt}
-use Rattle.program.specs.Verdict.{reach, reached, verdict}
-use Rattle.program.specs.Walk.{sendPlace, receivePlace}
-use Rattle.program.proofs.Test.{Least, none-passes, smallest, least-is}
+use Rattle.program.specs.Flow.{keepsAt}
+use Rattle.program.proofs.Test.{Least, smallest, least-is}
 use Rattle.format.specs.declared.Refusal.{Refusal}
-use Rattle.format.specs.declared.Reason.the-variants.{FlowRuleFails, ClaimFails, NotAChannel}
-use Rattle.format.specs.Refusals.{refusal, Result, refused, accepted}
+use Rattle.format.specs.declared.Reason.the-variants.{FlowRuleFails, NotAChannel}
+use Rattle.format.specs.Refusals.{refusal, Result, refused}
 use Rattle.format.specs.Limits.{rowLimit}
 use Rattle.format.specs.Text.{Bytes}
-use Rattle.format.specs.Document.{Entry, Claim, Document}
-use Rattle.format.specs.Structure.{rowLine, flowLine, commLine, claimLine, firstFailing}
+use Rattle.format.specs.Document.{Claim, Document}
+use Rattle.format.specs.Structure.{rowLine, claimLine, firstFailing}
 use Rattle.calls.specs.declared.JudgeAnswer.{JudgeAnswer}
-use Rattle.calls.specs.declared.VerdictAnswer.{VerdictAnswer}
 use Rattle.calls.specs.declared.VerdictStatus.{VerdictStatus}
 use Rattle.calls.specs.Layout.{rowsSize, setsSize, storeSize, decode, decodeSets, decodeClaims, commsStart, claimsStart}
 use Rattle.calls.specs.Canonical.{countRows}
-use Rattle.calls.specs.Judging.{flowTable, commTable, wordHolds, reaches, failingRow, failingClaim, after10, judgeClaims, judgeDocument, verdictDocument, verdictWords}
+use Rattle.calls.specs.Judging.{wordHolds, reaches, failingRow, failingClaim, after10, judgeClaims, judgeDocument, verdictDocument, verdictWords}
 use Rattle.calls.specs.Calls.{judgeAnswered, noVerdict, verdictGiven, verdictOf}
 use Rattle.calls.proofs.Canonical.Rows.{count-rows-le}
 use Rattle.bounds.proofs.Bounds.{sets-few}

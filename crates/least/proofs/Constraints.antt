@@ -10,7 +10,7 @@ use lib.ListN.{length}
 use Rattle.program.specs.declared.Form.{Form}
 use Rattle.program.specs.declared.Form.the-variants.{Chan, Send, Recv, Pair, Left, Right, Fun, Spawn, Sync, First, Second, Case, Apply}
 use Rattle.program.specs.Test.{pick}
-use Rattle.program.specs.Flow.{Abstract, row, Set, Table}
+use Rattle.program.specs.Flow.{row, Set, Table}
 use Rattle.program.specs.FlowRule.{ForEach, Lies, FlowRule}
 use Rattle.program.specs.Program.{Program, sendAt, recvAt}
 use Rattle.least.specs.Least.{Within, Constraint, holds, lies, gather, ofFound, ofRows, ofChans, sendConstraints, recvConstraints, constraints, Sets, bothTables}

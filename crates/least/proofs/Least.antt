@@ -5,7 +5,7 @@ use native.Mathlib.Decide.{ℕ-discrete}
 use mathlib.Core.Bool.{Bool, true, false, not, So, false≢true}
 use mathlib.Core.List.{List, [], _∷_, _++_, map}
 use mathlib.Core.Option.{some}
-use mathlib.Core.Path.{_≡_, refl, sym, ap, fun-ext}
+use mathlib.Core.Path.{_≡_, refl, ap, fun-ext}
 use mathlib.Core.Logic.{⊎-elim}
 use lib.ListN.{length}
 use lib.Dec.{ltb, eqb}
@@ -14,12 +14,12 @@ use Rattle.program.specs.Each.{Member, here, there, Each, nil, collect, elem}
 use Rattle.program.specs.Program.{Program, binders, bindAt, formAt, chanAt, chanOf, isValue, valueRow, chanRow}
 use Rattle.program.specs.Flow.{Abstract, Abstract-discrete, u, row, Set, Table}
 use Rattle.program.specs.FlowRule.{Lies, KeepsAll}
-use Rattle.least.specs.Least.{Within, among, Variable, Variable-discrete, name, channel, Constraint, holds, lies, gather, constraints, Sets, bothTables, Membership, sameMembership, asksFor}
+use Rattle.least.specs.Least.{Within, among, Variable, Variable-discrete, name, channel, Constraint, holds, lies, gather, Sets, bothTables, Membership, sameMembership, asksFor}
 use Rattle.least.specs.Least.{allConstraints, variableAllowed, memberAllowed, widest, memberships, without, staysOut, rounds, smallest, smallestFlow, smallestComm}
 use Rattle.program.proofs.Each.{each-at, each-imp, each-both, each-member}
 use Rattle.program.proofs.Maybe.{has-elim, bind-elim}
 use Rattle.program.proofs.Sound.Shape.{bind-bound, member-left, member-right}
-use Rattle.program.proofs.Test.{and-left, and-right, and-intro, not-elim, not-intro, or-cases, test-elim, test-intro, below}
+use Rattle.program.proofs.Test.{and-left, and-right, and-intro, not-elim, not-intro, or-cases, test-elim, test-intro, below, same-tests}
 use Rattle.least.proofs.Lists.{among-elim, among-intro, those-member, those-all}
 use Rattle.least.proofs.Constraints.{gather-iff, found-iff, Kept, constraints-iff, constraints-less}
 use Rattle.least.proofs.Widest.{widestFlow, widestComm, widest-keeps}
@@ -228,15 +228,10 @@ module _ (p : Program) where
   unfolding smallest widest
   smallest-allowed q a t = let w = without-widest _ q a t in (and-left _ (memberAllowed p a) w, and-right (variableAllowed p q) _ w)
 
-both-ways : (a b : Bool) → (So a → So b) → (So b → So a) → a ≡ b
-both-ways true b f g = sym (f refl)
-both-ways false true f g = g refl
-both-ways false false f g = refl
-
 -- tables that keep the rules and lie in all tables that do are the smallest
 pub smallest-unique : (p : Program) (flow comm : Table) → KeepsAll p flow comm
     → ((flow′ comm′ : Table) → KeepsAll p flow′ comm′ → Within flow flow′ × Within comm comm′) → (flow ≡ smallestFlow p) × (comm ≡ smallestComm p)
 smallest-unique p flow comm keeps least =
     let (f, c) = least (smallestFlow p) (smallestComm p) (smallest-keeps p) in
     let (g, d) = smallest-lies p flow comm keeps in
-    (fun-ext λ n. fun-ext λ a. both-ways _ _ (f n a) (g n a), fun-ext λ k. fun-ext λ a. both-ways _ _ (c k a) (d k a))
+    (fun-ext λ n. fun-ext λ a. same-tests _ _ (f n a) (g n a), fun-ext λ k. fun-ext λ a. same-tests _ _ (c k a) (d k a))

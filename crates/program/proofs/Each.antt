@@ -1,8 +1,10 @@
 -- Laws of what holds of each element of a list, and of every two.
-use mathlib.Core.Bool.{Bool, true, _&&_, So}
-use mathlib.Core.List.{List, [], _∷_, _++_, map}
-use mathlib.Core.Path.{_≡_, refl}
-use Rattle.program.specs.Each.{Member, here, there, Each, nil, _&_, every}
+use Prim.Native.Nat.{ℕ}
+use mathlib.Core.Bool.{Bool, So, _||_, or-assoc}
+use mathlib.Core.List.{List, [], _∷_, _++_, map, append-assoc}
+use mathlib.Core.Path.{_≡_, refl, sym, ap, _∙_}
+use lib.Dec.{eqb}
+use Rattle.program.specs.Each.{Member, here, there, Each, nil, _&_, every, collect, elem}
 use Rattle.program.proofs.Test.{and-left, and-right}
 
 module _ {A : Type 0} where
@@ -70,3 +72,13 @@ member-unmap f (x ∷ xs) (there m) = let (a, k, e) = member-unmap f xs m in (a,
 pub each-unmap : {A B : Type 0} {P : B → Type 0} (f : A → B) (xs : List A) → Each P (map f xs) → Each (λ a. P (f a)) xs
 each-unmap f [] h = nil
 each-unmap f (x ∷ xs) (p & h) = p & each-unmap f xs h
+
+pub collect-append : {A B : Type 0} (f : A → List B) (xs ys : List A) → collect f (xs ++ ys) ≡ collect f xs ++ collect f ys
+unfolding collect
+collect-append f [] ys = refl
+collect-append f (x ∷ xs) ys = rw (collect-append f xs ys) (sym (append-assoc (f x) (collect f xs) (collect f ys)))
+
+pub elem-append : (n : ℕ) (xs ys : List ℕ) → elem n (xs ++ ys) ≡ (elem n xs || elem n ys)
+unfolding elem
+elem-append n [] ys = refl
+elem-append n (x ∷ xs) ys = ap (λ (b : Bool). eqb n x || b) (elem-append n xs ys) ∙ sym (or-assoc (eqb n x) (elem n xs) (elem n ys))

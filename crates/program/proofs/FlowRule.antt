@@ -1,5 +1,5 @@
 -- The executable flow rules are equivalent to the propositions.
-use Prim.Native.Nat.{ℕ, _<_}
+use Prim.Native.Nat.{ℕ}
 use mathlib.Core.Bool.{Bool, So, and-eq-true-iff}
 use mathlib.Core.Option.{Option, some}
 use mathlib.Core.Path.{_≡_}
@@ -8,9 +8,9 @@ use lib.ListN.{length}
 use Rattle.program.specs.declared.Form.{Form}
 use Rattle.program.specs.declared.Form.the-variants.{Chan, Send, Recv, Pair, Left, Right, Fun, Spawn, Sync, First, Second, Case, Apply}
 use Rattle.program.specs.Flow.{u, row, Set, Table, forEach, forEachChan, lies, sendRule, recvRule, keepsForm, keepsAt, keepsAll}
-use Rattle.program.specs.FlowRule.{ForEach, ForEachChan, Lies, FlowRule, KeepsAll}
+use Rattle.program.specs.FlowRule.{ForEach, Lies, FlowRule, KeepsAll}
 use Rattle.program.specs.Maybe.{when}
-use Rattle.program.specs.Program.{Program, bindAt, chanAt, sendAt, recvAt, pairAt, leftAt, rightAt, funAt, resultName}
+use Rattle.program.specs.Program.{Program, bindAt}
 use Rattle.program.specs.Test.{_⇒_}
 use Rattle.program.proofs.Sound.Shape.{bind-bound}
 use Rattle.program.proofs.Maybe.{when-intro, found-at, found-when}

@@ -133,21 +133,22 @@ none-least n f h = go (least n f) (least-is n f)
 
 -- ---- equations between tests
 
-pub and-true : (a : Bool) → a && true ≡ a
-and-true true = refl
-and-true false = refl
+pub or-neither : (a b : Bool) → (a || b) ≡ false → (a ≡ false) × (b ≡ false)
+or-neither true b e = absurd (false≢true (sym e))
+or-neither false b e = (refl, e)
 
-pub and-false : (a : Bool) → a && false ≡ false
-and-false true = refl
-and-false false = refl
+-- two tests that pass together are the same
+pub same-tests : (a b : Bool) → (So a → So b) → (So b → So a) → a ≡ b
+same-tests true b f g = sym (f refl)
+same-tests false true f g = g refl
+same-tests false false f g = refl
 
-pub and-assoc : (a b c : Bool) → (a && b) && c ≡ a && (b && c)
-and-assoc true b c = refl
-and-assoc false b c = refl
-
-pub or-true : (a : Bool) → a || true ≡ true
-or-true true = refl
-or-true false = refl
+-- a flag that one of two tests sets
+pub pick-or : (f g : Bool) (x : ℕ) → pick g 1 (pick f 1 x) ≡ pick (f || g) 1 x
+pick-or true true x = refl
+pick-or true false x = refl
+pick-or false true x = refl
+pick-or false false x = refl
 
 pub all-same : (n : ℕ) (f g : ℕ → Bool) → ((i : ℕ) → i < n → f i ≡ g i) → all n f ≡ all n g
 unfolding all

@@ -1,8 +1,8 @@
 -- One line more: the progress with it is that of the document with it, and stays small; the store with it has one part replaced.
 use Prim.Native.Nat.{ℕ, _+_, _*_, _<_, _≤_}
-use mathlib.Core.Bool.{Bool, true, false, _&&_}
+use mathlib.Core.Bool.{Bool, _&&_, and-true, and-false, and-assoc}
 use mathlib.Core.List.{List, [], _∷_, _++_}
-use mathlib.Core.Path.{_≡_, refl, sym, ap, _∙_}
+use mathlib.Core.Path.{_≡_, sym, ap, _∙_}
 use native.Mathlib.Omega.{arith}
 use native.Mathlib.Decide.{decLt}
 use lib.ListN.{length, length-append}
@@ -25,15 +25,7 @@ use Rattle.progress.specs.Lines.{setLine, placeOf, leastOf, withRow, wit
 every-snoc : {A : Type 0} (f : A → Bool) (xs : List A) (x : A) → every f (xs ++ (x ∷ [])) ≡ (every f xs && f x)
 unfolding every
 every-snoc f [] x = and-true (f x)
-  where
-    and-true : (b : Bool) → (b && true) ≡ (true && b)
-    and-true true = refl
-    and-true false = refl
-every-snoc f (y ∷ xs) x = ap (λ (b : Bool). f y && b) (every-snoc f xs x) ∙ assoc (f y) (every f xs) (f x)
-  where
-    assoc : (a b c : Bool) → (a && (b && c)) ≡ (a && b && c)
-    assoc true b c = refl
-    assoc false b c = refl
+every-snoc f (y ∷ xs) x = ap (λ (b : Bool). f y && b) (every-snoc f xs x) ∙ sym (and-assoc (f y) (every f xs) (f x))
 
 -- below k are all that are below least, where n is not below least, and n: exactly if n + 1 is at most k
 next-least : (least n k : ℕ) → least ≤ n → (leb least k && ltb n k) ≡ leb (n + 1) k
@@ -42,10 +34,6 @@ next-least least n k l =
       | yes h ↦ rw (le-leb least k (omega arith), lt-ltb n k h, le-leb (n + 1) k (omega arith))
       | no h ↦ rw (le-ltb n k (omega arith), lt-leb (n + 1) k (omega arith)) (and-false (leb least k))
     ]
-  where
-    and-false : (b : Bool) → (b && false) ≡ false
-    and-false true = refl
-    and-false false = refl
 
 snoc-length : {A : Type 0} (xs : List A) (x : A) (n : ℕ) → length xs ≡ n → length (xs ++ (x ∷ [])) ≡ n + 1
 snoc-length xs x n e = length-append xs (x ∷ []) ∙ omega arith

@@ -1,6 +1,6 @@
 -- What is wrong with a line, told from the progress alone.
 use Prim.Native.Nat.{ℕ, zero, suc, _+_, _<_, _≤_}
-use mathlib.Core.Bool.{Bool, true, false, not, _&&_, _||_}
+use mathlib.Core.Bool.{Bool, true, false, not, _&&_, _||_, and-true, or-false}
 use mathlib.Core.List.{List, [], _∷_}
 use mathlib.Core.Option.{Option, none, some}
 use mathlib.Core.Path.{_≡_, refl, sym, ap, _∙_}
@@ -13,6 +13,7 @@ use Rattle.program.specs.declared.Row.{Row}
 use Rattle.program.specs.declared.Word.{Word}
 use Rattle.program.specs.Test.{pick}
 use Rattle.program.specs.Each.{every}
+use Rattle.program.proofs.Test.{or-neither}
 use Rattle.format.specs.declared.Reason.{Reason}
 use Rattle.format.specs.declared.Reason.the-variants.{NotALine, AboveLimit, OutOfCount, NotRising}
 use Rattle.format.specs.Limits.{rowLimit}
@@ -59,14 +60,6 @@ under least n b =
       | yes l ↦ rw (lt-leb least n l, lt-ltb n least l)
       | no g ↦ rw (le-leb least n (omega arith), le-ltb n least (omega arith))
     ]
-
-or-false : (b : Bool) → (b || false) ≡ b
-or-false true = refl
-or-false false = refl
-
-and-true : (b : Bool) → b ≡ (b && true)
-and-true true = refl
-and-true false = refl
 
 -- ---- the fault of a line
 
@@ -139,7 +132,7 @@ module _ (d : Document) (p : Progress) (m : Matches d p) where
       refl
       (over n true ∙ or-false (leb rowLimit n))
       no-rows
-      (ap not (m .claims-rise n ∙ and-true (leb (p .«claim_least») n)) ∙ under (p .«claim_least») n true ∙ or-false (ltb n (p .«claim_least»)))
+      (ap not (m .claims-rise n ∙ sym (and-true (leb (p .«claim_least») n))) ∙ under (p .«claim_least») n true ∙ or-false (ltb n (p .«claim_least»)))
 
 -- ---- a line without fault
 
@@ -150,25 +143,21 @@ faultless false true c e h = let z : _≡_ {A = ℕ} 0 1 = cc in absurd (omega a
 faultless false false true e h = let z : _≡_ {A = ℕ} 0 1 = cc in absurd (omega arith)
 faultless false false false true h = let z : _≡_ {A = ℕ} 0 1 = cc in absurd (omega arith)
 
-neither : (a b : Bool) → (a || b) ≡ false → (a ≡ false) × (b ≡ false)
-neither false b h = (refl, h)
-neither true b h = let z : _≡_ {A = ℕ} 0 1 = cc in absurd (omega arith)
-
 pub row-fits : (p : Progress) (n : ℕ) (above : Bool) → rowLineFault p n above ≡ none → (n < rowLimit) × (above ≡ false) × (n ≡ p .rows)
 unfolding rowLineFault
 row-fits p n above h =
     let (a, b, c, e) = faultless (ltb 0 (p .flows + p .comms + p .claims)) (leb rowLimit n || above) (not (eqb n (p .rows))) false h in
-    let (l, r) = neither (leb rowLimit n) above b in
+    let (l, r) = or-neither (leb rowLimit n) above b in
     (leb-false rowLimit n l, r, eqb-true n (p .rows) (not-false (eqb n (p .rows)) c))
 
 pub set-fits : (t : Table) (p : Progress) (n : ℕ) (f : SetFault) → setLineFault t p n f ≡ none → (n < rowLimit) × (leastOf t p ≤ n)
 unfolding setLineFault
 set-fits Flow p n f h =
     let (a, b, c, e) = faultless (ltb 0 (p .comms + p .claims)) (leb rowLimit n || isAboveLimit f) (eqb (p .rows) 0) (ltb n (p .«flow_least») || isNotRising f) h in
-    (leb-false rowLimit n (neither (leb rowLimit n) (isAboveLimit f) b .0), ltb-false n (p .«flow_least») (neither (ltb n (p .«flow_least»)) (isNotRising f) e .0))
+    (leb-false rowLimit n (or-neither (leb rowLimit n) (isAboveLimit f) b .0), ltb-false n (p .«flow_least») (or-neither (ltb n (p .«flow_least»)) (isNotRising f) e .0))
 set-fits Comm p n f h =
     let (a, b, c, e) = faultless (ltb 0 (p .claims)) (leb rowLimit n || isAboveLimit f) (eqb (p .rows) 0) (ltb n (p .«comm_least») || isNotRising f) h in
-    (leb-false rowLimit n (neither (leb rowLimit n) (isAboveLimit f) b .0), ltb-false n (p .«comm_least») (neither (ltb n (p .«comm_least»)) (isNotRising f) e .0))
+    (leb-false rowLimit n (or-neither (leb rowLimit n) (isAboveLimit f) b .0), ltb-false n (p .«comm_least») (or-neither (ltb n (p .«comm_least»)) (isNotRising f) e .0))
 
 pub claim-fits : (p : Progress) (n : ℕ) → claimLineFault p n ≡ none → (n < rowLimit) × (p .«claim_least» ≤ n)
 unfolding claimLineFault

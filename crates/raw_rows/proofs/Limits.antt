@@ -1,6 +1,6 @@
 -- The numbers of a row as read: whether one is above the limit, and that a byte holds each where none is.
 use Prim.Native.Nat.{ℕ, zero, suc, _+_, _%_, _<_, _≤_}
-use mathlib.Core.Bool.{Bool, true, false, not, _&&_, So, false≢true}
+use mathlib.Core.Bool.{Bool, true, false, not, _&&_, So, false≢true, and-false}
 use mathlib.Core.List.{List, [], _∷_, _++_, map}
 use mathlib.Core.Path.{_≡_, refl, sym, ap, _∙_}
 use native.Mathlib.Omega.{arith}
@@ -84,10 +84,6 @@ every-fails f [] i count l h k = absurd (omega arith)
 every-fails f (n ∷ ns) i zero l h k = absurd (omega arith)
 every-fails f (n ∷ ns) zero (suc c) l h k = rw k
 every-fails f (n ∷ ns) (suc i) (suc c) l h k = rw (every-fails f ns i c (omega arith) (omega arith) k) (and-false (f n))
-  where
-    and-false : (b : Bool) → (b && false) ≡ false
-    and-false true = refl
-    and-false false = refl
 
 -- the first i numbers have been tested, and none is above the limit
 module _ (ns : List ℕ) (i count : ℕ) where

@@ -1,19 +1,14 @@
 -- What a row gives, by its kind: the steps that are marked are those of the definition.
-use Prim.Native.Nat.{ℕ, _+_, _*_, _≤_, _<_}
+use Prim.Native.Nat.{ℕ, _+_}
 use native.Mathlib.Omega.{arith}
-use native.Mathlib.Decide.{ℕ-discrete}
 use native.Mathlib.Numerals.{add-one}
-use mathlib.Core.Bool.{Bool, true, false, _||_, and-false, or-comm}
-use mathlib.Core.Path.{_≡_, refl, _∙_}
-use lib.ListN.{length, getD, set, length-set}
-use lib.Seq.{getD-set-same, getD-set-other}
-use lib.Dec.{eqb, ltb}
-use borrow.Author.Tests.{eq-eqb, ne-eqb, lt-ltb}
-use Rattle.program.specs.Test.{pick, any}
+use mathlib.Core.Bool.{false, and-false}
+use mathlib.Core.Path.{_≡_}
+use lib.Dec.{ltb}
+use borrow.Author.Tests.{lt-ltb}
 use Rattle.program.specs.Program.{Program, resultRow}
 use Rattle.program.specs.Flow.{Table, row}
 use Rattle.program.specs.Walk.{enters}
-use Rattle.format.specs.Limits.{rowLimit}
 use Rattle.format.specs.Document.{member}
 use Rattle.format.specs.Text.{Bytes}
 use Rattle.store.specs.Rows.{storeProgram}

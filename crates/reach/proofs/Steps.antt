@@ -17,7 +17,7 @@ use Rattle.program.specs.Program.{Program, rowAt, bindOf, bindAt, formAt, caseO
 use Rattle.program.specs.Flow.{Table, row}
 use Rattle.program.specs.Verdict.{reach}
 use Rattle.program.specs.Walk.{plain, Sides, always, enters, someCalled, toRest, toChild, toCalled, toCaller, edge}
-use Rattle.program.proofs.Test.{and-left, and-right, and-intro, or-left, or-right, or-cases, any-intro, any-elim}
+use Rattle.program.proofs.Test.{and-left, and-right, and-intro, or-left, or-right, or-cases, any-intro, any-elim, same-tests}
 use Rattle.program.proofs.Maybe.{has-elim, has-intro, bind-elim}
 use Rattle.program.proofs.Sound.Shape.{bind-bound, row-of}
 use Rattle.program.proofs.Sound.Edges.{form-at, Calls, edge-rest, edge-child, edge-call, edge-return}
@@ -31,14 +31,9 @@ use Rattle.step_marks.specs.Marks.{callSteps, fromBoth}
 use Rattle.reach.specs.Edges.{kindCalled, bodySteps, anyBody, entering, kindSteps, rowSteps, anyRow}
 use Rattle.grids.proofs.Adding.{among-as, fills-as}
 
-same-test : (a b : Bool) → (So a → So b) → (So b → So a) → a ≡ b
-same-test true b f g = sym (f refl)
-same-test false true f g = g refl
-same-test false false f g = refl
-
 -- either of two tests, of a number below n, of what is there, and beside a third
 any-or : (n : ℕ) (f g : ℕ → Bool) → any n (λ i. f i || g i) ≡ (any n f || any n g)
-any-or n f g = same-test (any n λ i. f i || g i) (any n f || any n g) apart together
+any-or n f g = same-tests (any n λ i. f i || g i) (any n f || any n g) apart together
   where
     apart : So (any n λ i. f i || g i) → So (any n f || any n g)
     apart h = let (i, l, t) = any-elim n _ h in ⊎-elim (λ a. or-left _ (any-intro f i l a)) (λ b. or-right (any n f) (any-intro g i l b)) (or-cases (f i) (g i) t)
@@ -285,7 +280,7 @@ module _ (p : Program) (flow : Table) where
 
   pub edge-rows : (r s : ℕ) → anyRow p flow (length p) r s ≡ edge p flow r s
   unfolding anyRow
-  edge-rows r s = same-test (anyRow p flow (length p) r s) (edge p flow r s) some (taken r s)
+  edge-rows r s = same-tests (anyRow p flow (length p) r s) (edge p flow r s) some (taken r s)
     where
       some : So (anyRow p flow (length p) r s) → So (edge p flow r s)
       some h = let (q, l, i) = any-elim (length p) (λ q. rowSteps p flow q r s) h in given q r s i

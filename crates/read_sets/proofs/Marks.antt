@@ -1,6 +1,5 @@
 -- Marking members: the length stays, members are marked one list after the other, and marks in zeros are the flags of the store.
-use Prim.Native.Nat.{ℕ, zero, suc, _+_, _≤_}
-use mathlib.Core.Bool.{Bool, true, false, _||_}
+use Prim.Native.Nat.{ℕ, zero, suc, _+_}
 use mathlib.Core.List.{List, [], _∷_, _++_}
 use mathlib.Core.Path.{_≡_, refl, ap, _∙_}
 use native.Mathlib.Omega.{arith}
@@ -10,8 +9,10 @@ use lib.Dec.{eqb}
 use borrow.Author.Tests.{eq-eqb, ne-eqb}
 use Rattle.program.specs.Test.{pick}
 use Rattle.program.specs.Each.{elem}
+use Rattle.program.proofs.Test.{pick-or}
 use Rattle.format.specs.Text.{Bytes}
 use Rattle.calls.specs.Layout.{memberLimit, counting, flagsOf}
+use Rattle.calls.proofs.Codec.Sparse.{counting-same}
 use Rattle.read_sets.specs.Sets.{marks}
 
 pub marks-length : (ms : List ℕ) (flags : Bytes) → length (marks ms flags) ≡ length flags
@@ -25,11 +26,6 @@ marks-append [] ns flags = refl
 marks-append (m ∷ ms) ns flags = marks-append ms ns (set flags m 1)
 
 -- ---- marks in a row of bytes that a function gives
-
-counting-same : (n i : ℕ) (f g : ℕ → ℕ) → ((k : ℕ) → i ≤ k → f k ≡ g k) → counting n i f ≡ counting n i g
-unfolding counting
-counting-same zero i f g h = refl
-counting-same (suc n) i f g h = rw (h i (omega arith), counting-same n (suc i) f g (λ k l. h k (omega arith)))
 
 counting-zero : (n i : ℕ) → counting n i (λ k. zero) ≡ replicate n 0
 unfolding counting
@@ -45,7 +41,7 @@ unfolding counting
 set-counting zero i m f = refl
 set-counting (suc n) i zero f =
     rw (eq-eqb i (i + zero) (omega arith))
-    (ap (λ (bs : Bytes). 1 ∷ bs) (counting-same n (suc i) f (marked (i + zero) f) λ k l. rw (ne-eqb k (i + zero) (omega arith))))
+    (ap (λ (bs : Bytes). 1 ∷ bs) (counting-same n (suc i) f (marked (i + zero) f) λ k l m. rw (ne-eqb k (i + zero) (omega arith))))
 set-counting (suc n) i (suc m) f =
     let e : i + suc m ≡ suc i + m = omega arith in
     rw (ne-eqb i (i + suc m) (omega arith), e) (ap (λ (bs : Bytes). f i ∷ bs) (set-counting n (suc i) m f))
@@ -56,13 +52,7 @@ unfolding marks elem
 marks-counting n [] f = refl
 marks-counting n (m ∷ ms) f =
     rw (set-counting n 0 m f)
-    (marks-counting n ms (marked (0 + m) f) ∙ counting-same n 0 _ _ λ k l. rw (zero-add m) (both (eqb k m) (elem k ms) (f k)))
-  where
-    both : (p q : Bool) (b : ℕ) → pick q 1 (pick p 1 b) ≡ pick (p || q) 1 b
-    both true true b = refl
-    both true false b = refl
-    both false true b = refl
-    both false false b = refl
+    (marks-counting n ms (marked (0 + m) f) ∙ counting-same n 0 _ _ λ k l i. rw (zero-add m) (pick-or (eqb k m) (elem k ms) (f k)))
 
 pub marks-zeros : (n : ℕ) (ms : List ℕ) → marks ms (replicate n 0) ≡ counting n 0 (λ k. pick (elem k ms) 1 0)
 marks-zeros n ms = rw (← (counting-zero n 0)) (marks-counting n ms (λ k. 0))

@@ -1,27 +1,26 @@
 -- The report of a file: no longer than `reportLimit`, and put together from what load, judge and verdict answer.
-use Prim.Native.Nat.{ℕ, zero, suc, _+_, _*_, _/_, _%_, _≤_, _<_}
+use Prim.Native.Nat.{ℕ, zero, suc, _+_, _*_, _≤_, _<_}
 use native.Mathlib.Omega.{arith}
 use mathlib.Core.Bool.{Bool, true, false, So}
 use mathlib.Core.List.{List, [], _∷_, _++_, map}
 use mathlib.Core.Option.{Option, none, some}
-use mathlib.Core.Path.{_≡_, refl, sym, ap, _∙_, subst}
+use mathlib.Core.Path.{_≡_, refl, ap, subst}
 use lib.ListN.{length, drop, length-append}
-use lib.Dec.{ltb}
-use borrow.Author.Tests.{lt-ltb, le-ltb}
-use Rattle.program.specs.Test.{pick}
+use borrow.Author.Tests.{le-ltb}
 use Rattle.program.specs.Each.{collect}
 use Rattle.program.specs.Program.{chanRow}
 use Rattle.program.proofs.Test.{and-left}
 use Rattle.format.specs.declared.Reason.the-variants.{FlowRuleFails}
 use Rattle.format.specs.declared.Refusal.{Refusal}
 use Rattle.format.specs.Limits.{rowLimit}
-use Rattle.format.specs.Text.{Bytes, ascii, place, digits, argument}
+use Rattle.format.specs.Text.{Bytes, ascii}
 use Rattle.format.specs.Refusals.{number, refusal, Result, refused, accepted}
 use Rattle.format.specs.Document.{Document}
 use Rattle.format.specs.Structure.{rowLine}
 use Rattle.format.specs.WellFormed.{orderly, wellFormed}
 use Rattle.format.specs.Check.{check}
 use Rattle.format.proofs.Files.{check-iff}
+use Rattle.format.proofs.Lengths.{pick-length, argument-length, argument-short}
 use Rattle.calls.specs.declared.LoadAnswer.{LoadAnswer}
 use Rattle.calls.specs.declared.LoadAnswer.the-variants as load
 use Rattle.calls.specs.declared.JudgeAnswer.{JudgeAnswer}
@@ -39,27 +38,6 @@ use Rattle.calls.proofs.Canonical.Rows.{count-rows-le, rows-count}
 use Rattle.calls.proofs.Calls.{opened-loaded, judge-opened}
 
 -- ---- how long lines are
-
-pick-length : (k : ℕ) (b : Bool) (xs ys : Bytes) → length xs ≤ k → length ys ≤ k → length (pick b xs ys) ≤ k
-pick-length k true xs ys h i = h
-pick-length k false xs ys h i = i
-
-place-length : (n p : ℕ) → length (place n p) ≤ 1
-unfolding place
-place-length n p = pick-length 1 (ltb n p) [] ((48 + n / p % 10) ∷ []) (omega arith) (omega arith)
-
-place-none : (n p : ℕ) → n < p → length (place n p) ≡ 0
-unfolding place
-place-none n p h = rw (lt-ltb n p h)
-
-argument-length : (n : ℕ) → length (argument n) ≤ 6
-unfolding argument digits
-argument-length n = simp length-append (omega (arith, place-length n 10000, place-length n 1000, place-length n 100, place-length n 10))
-
--- a number of three digits
-argument-short : (n : ℕ) → n < 1000 → length (argument n) ≤ 4
-unfolding argument digits
-argument-short n h = simp length-append (omega (arith, place-none n 10000 (omega arith), place-none n 1000 h, place-length n 100, place-length n 10))
 
 pub refused-short : (r : Refusal) → length (refusedText r) ≤ 32
 unfolding refusedText ascii

@@ -1,7 +1,7 @@
 -- The report of a store and of a file: which text it is, that its numbers have two bytes, and that it has room.
 use Prim.Native.Nat.{ℕ, _+_, _≤_, _<_}
 use native.Mathlib.Omega.{arith}
-use mathlib.Core.List.{List, [], _∷_, _++_}
+use mathlib.Core.List.{[], _∷_, _++_}
 use mathlib.Core.Path.{_≡_, refl, sym, ap, _∙_}
 use lib.ListN.{length, take, drop}
 use borrow.Author.Tests.{lt-ltb, le-ltb}
@@ -12,7 +12,6 @@ use Rattle.format.specs.Limits.{rowLimit, byteLimit}
 use Rattle.format.specs.Text.{Bytes}
 use Rattle.format.specs.Refusals.{number, refusal, Result, refused, accepted}
 use Rattle.format.specs.Document.{Document}
-use Rattle.format.specs.Check.{check}
 use Rattle.format.proofs.Files.{check-iff}
 use Rattle.calls.specs.declared.Counts.{Counts}
 use Rattle.calls.specs.declared.LoadAnswer.{LoadAnswer}

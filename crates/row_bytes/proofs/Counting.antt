@@ -4,7 +4,7 @@ use native.Mathlib.Omega.{arith}
 use mathlib.Core.Bool.{false}
 use mathlib.Core.Path.{_≡_, sym, _∙_}
 use lib.ListN.{getD, drop}
-use lib.Seq.{drop-drop, getD-drop}
+use lib.Seq.{drop-drop}
 use lib.Dec.{eqb}
 use native.Mathlib.Nat.{add-zero}
 use borrow.Author.Tests.{eq-eqb, ne-eqb}
@@ -12,9 +12,7 @@ use Rattle.format.specs.Text.{Bytes, byteAt}
 use Rattle.format.specs.Limits.{rowLimit}
 use Rattle.calls.specs.Layout.{rowSize}
 use Rattle.calls.specs.Canonical.{countRows}
-
-kind-at : (s : Bytes) (p : ℕ) → getD (drop p s) 0 0 ≡ byteAt s p
-kind-at s p = rw add-zero at (getD-drop p s 0 0)
+use Rattle.store.proofs.Laws.{kind-at}
 
 count-stops : (s : Bytes) (r k : ℕ) → byteAt s (r * rowSize) ≡ 0 → countRows (suc k) (drop (r * rowSize) s) ≡ 0
 unfolding countRows

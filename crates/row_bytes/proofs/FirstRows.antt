@@ -8,6 +8,7 @@ use Rattle.program.specs.Test.{all}
 use Rattle.format.specs.Text.{Bytes}
 use Rattle.calls.specs.Layout.{rowSize}
 use Rattle.calls.specs.Canonical.{rowSound, rowsSound}
+use Rattle.store.proofs.Laws.{rowPart}
 
 -- the rows below one that is sound are what is left to test
 abbrev pub SoundTo : Bytes → ℕ → ℕ → Type 0
@@ -19,10 +20,6 @@ rowAt s r = take rowSize (drop (r * rowSize) s)
 rows-step : (s : Bytes) (r : ℕ) → rowsSound (suc r) s ≡ (rowSound (rowAt s r) && rowsSound r s)
 unfolding rowsSound all
 rows-step s r = refl
-
--- row r as the code cuts it out
-abbrev pub rowPart : Bytes → ℕ → Bytes
-rowPart s r = take (r * rowSize + rowSize - r * rowSize) (drop (r * rowSize) s)
 
 part-is : (s : Bytes) (r : ℕ) → rowPart s r ≡ rowAt s r
 part-is s r = let q : r * rowSize + rowSize - r * rowSize ≡ rowSize = omega arith in rw q

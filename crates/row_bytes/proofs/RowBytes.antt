@@ -5,8 +5,7 @@ use native.Mathlib.Decide.{decLt}
 use mathlib.Core.Bool.{Bool, true, false, _&&_}
 use mathlib.Core.List.{List, [], _∷_, _++_}
 use mathlib.Core.Path.{_≡_, refl, sym, ap, _∙_}
-use lib.ListN.{length, getD, take, drop, length-drop, List·getD-eq-default}
-use lib.Seq.{take-all}
+use lib.ListN.{length, getD, take, drop, List·getD-eq-default}
 use lib.Dec.{ltb, leb, eqb}
 use borrow.Author.Tests.{lt-ltb, le-ltb, leb-true, eq-eqb, ne-eqb}
 use Rattle.program.specs.Test.{pick, all}
@@ -20,9 +19,8 @@ use Rattle.format.specs.Read.{rowNumbers}
 use Rattle.calls.specs.Layout.{rowSize, rowOf, rowBytes, padded, same}
 use Rattle.calls.specs.Canonical.{rowSound}
 use Rattle.row_bytes.specs.Rows.{used, usedBytes}
-
-abbrev Below : ℕ → Bytes → Bool
-Below limit bs = every (λ x. ltb x limit) bs
+use Rattle.byte_tests.proofs.Below.{Below}
+use Rattle.store.proofs.Laws.{rest-all}
 
 eqb-same : (n : ℕ) → eqb n n ≡ true
 eqb-same n = eq-eqb n n refl
@@ -106,10 +104,6 @@ used-fits k =
 
 pub row-none : (bs : Bytes) → length bs ≡ rowSize → usedBytes (getD bs 0 0) ≡ 0 → false ≡ rowSound bs
 row-none bs l e = sym (row-parts bs l ∙ rw e)
-
--- the part of a slice from a position on
-rest-all : (bs : Bytes) (n : ℕ) → take (length bs - n) (drop n bs) ≡ drop n bs
-rest-all bs n = take-all (length bs - n) (drop n bs) (rw (length-drop n bs) (omega arith))
 
 pub row-unused : (bs : Bytes) (n : ℕ) → length bs ≡ rowSize → n ≡ usedBytes (getD bs 0 0) → (n ≡ 0 → ⊥) → Below 1 (take (length bs - n) (drop n bs)) ≡ false → false ≡ rowSound bs
 row-unused bs n l e some z =

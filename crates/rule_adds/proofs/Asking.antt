@@ -1,29 +1,24 @@
 -- The rules of the forms, as changes of a store meet them.
-use Prim.Native.Nat.{ℕ, _+_, _<_, _≤_}
-use native.Mathlib.Numerals.{add-one}
-use mathlib.Core.Bool.{Bool, false, _&&_, _||_}
-use mathlib.Core.List.{List, [], _∷_}
-use mathlib.Core.Path.{_≡_, sym, _∙_, subst, fun-ext}
-use Rattle.program.specs.declared.Row.{Row}
-use Rattle.program.specs.declared.Bind.{Bind}
+use Prim.Native.Nat.{ℕ, _<_}
+use mathlib.Core.Bool.{Bool, _&&_, and-true}
+use mathlib.Core.Path.{_≡_, sym}
 use Rattle.program.specs.declared.Form.{Form}
-use Rattle.program.specs.declared.Form.the-variants.{Chan, Send, Recv, Pair, Left, Right, Fun, Case, Apply}
+use Rattle.program.specs.declared.Form.the-variants.{Pair, Left, Right, Fun, Case, Apply}
 use Rattle.program.specs.Maybe.{when}
 use Rattle.program.specs.Test.{all}
-use Rattle.program.specs.Program.{Program, rowAt, bindOf, bindAt, chanAt, nameOf, resultRow, resultName}
-use Rattle.program.specs.Flow.{u, row, Table, lies, forEach, forEachChan, keepsForm, keepsAt, keepsAll}
-use Rattle.program.specs.Each.{Each, _&_}
-use Rattle.program.proofs.Test.{and-true}
+use Rattle.program.specs.Program.{Program, rowAt, resultRow, resultName}
+use Rattle.program.specs.Flow.{lies, forEach}
+use Rattle.program.specs.Each.{_&_}
 use Rattle.format.specs.Limits.{rowLimit}
 use Rattle.format.specs.Text.{Bytes, byteAt}
 use Rattle.format.specs.Print.{formNumbers}
 use Rattle.store.specs.Rows.{storeProgram}
 use Rattle.store.proofs.Laws.{program-length}
 use Rattle.forms.specs.Forms.{formIn}
-use Rattle.forms.proofs.Forms.{chan-at, pair-at, left-at, right-at, fun-at, send-at, recv-at}
+use Rattle.forms.proofs.Forms.{pair-at, left-at, right-at, fun-at}
 use Rattle.asks.specs.Asks.{Names}
 use Rattle.rule_adds.specs.declared.Ask.{Ask}
-use Rattle.set_adds.specs.Adding.{Rule, Adds}
+use Rattle.set_adds.specs.Adding.{Adds}
 use Rattle.rule_adds.specs.Rules.{askRule, memberRule}
 use Rattle.set_adds.proofs.Adding.{adds-as}
 use Rattle.sync_adds.specs.Syncs.{Ready}

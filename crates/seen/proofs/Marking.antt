@@ -1,21 +1,23 @@
 -- Flags as numbers, and marks: what one number more changes, and numbers one after the other.
-use Prim.Native.Nat.{ℕ, zero, suc, max, _<_}
+use Prim.Native.Nat.{ℕ, max, _<_}
 use native.Mathlib.Omega.{arith}
 use native.Mathlib.Decide.{ℕ-discrete}
 use mathlib.Core.Bool.{Bool, true, false, _||_, or-assoc, or-true, or-false}
 use mathlib.Core.List.{List, [], _∷_, _++_, append-assoc, append-nil}
-use mathlib.Core.Path.{_≡_, refl, sym, ap, _∙_}
+use mathlib.Core.Path.{_≡_, refl, ap, _∙_}
 use lib.ListN.{length, set, replicate, length-set, length-replicate}
 use lib.Seq.{getD-set-same, getD-set-other}
 use lib.Dec.{eqb}
 use borrow.Author.Tests.{ne-eqb}
 use Rattle.program.specs.Each.{elem}
 use Rattle.program.proofs.Test.{eqb-same}
+use Rattle.program.proofs.Each.{elem-append}
 use Rattle.format.specs.Text.{Bytes, byteAt}
 use Rattle.format.specs.Structure.{boundEarlier}
 use Rattle.seen.specs.declared.Seen.{Seen}
 use Rattle.seen.specs.Flags.{flag, Tells}
 use Rattle.seen.specs.Seen.{numberCount, Marks, Adds}
+use Rattle.store.proofs.Laws.{zeros-at}
 
 -- ---- flags
 
@@ -33,11 +35,6 @@ flag-clear true h = absurd (omega arith)
 flag-clear false h = refl
 
 -- ---- numbers of a list, and numbers that were seen earlier
-
-elem-append : (n : ℕ) (xs ys : List ℕ) → elem n (xs ++ ys) ≡ (elem n xs || elem n ys)
-unfolding elem
-elem-append n [] ys = refl
-elem-append n (x ∷ xs) ys = ap (λ (b : Bool). eqb n x || b) (elem-append n xs ys) ∙ sym (or-assoc (eqb n x) (elem n xs) (elem n ys))
 
 -- the first of a list may stand after others
 elem-moved : (n x : ℕ) (xs ys : List ℕ) → elem n (x ∷ (xs ++ ys)) ≡ elem n (xs ++ (x ∷ ys))
@@ -62,11 +59,6 @@ bound-append xs (n ∷ ns) ms =
 
 -- ---- marks
 
-pub zeros : (k n : ℕ) → byteAt (replicate k 0) n ≡ 0
-zeros zero n = refl
-zeros (suc k) zero = refl
-zeros (suc k) (suc n) = zeros k n
-
 -- one flag more, where the tests differ at its number alone
 pub tells-set : (f g : ℕ → Bool) (bs : Bytes) (i : ℕ) {v : ℕ} → i < length bs → Tells f bs → v ≡ flag (g i) → ((j : ℕ) → (j ≡ i → ⊥) → f j ≡ g j) → Tells g (set bs i v)
 tells-set f g bs i {v} l h e same = record { at = λ j. go j (ℕ-discrete j i) }
@@ -80,7 +72,7 @@ unfolding elem
 marks-none marks e =
     record {
       size = ap length e ∙ length-replicate {A = ℕ} numberCount 0;
-      tells = record { at = λ n. ap (λ (bs : Bytes). byteAt bs n) e ∙ zeros numberCount n };
+      tells = record { at = λ n. ap (λ (bs : Bytes). byteAt bs n) e ∙ zeros-at numberCount n };
     }
 
 marks-one : (marks : Bytes) (xs : List ℕ) (n : ℕ) → n < numberCount → Marks xs marks → Marks (xs ++ (n ∷ [])) (set marks n 1)

@@ -3,15 +3,15 @@ use Prim.Native.Nat.{ℕ, zero, suc, _+_, _<_, _≤_}
 use native.Mathlib.Omega.{arith}
 use native.Mathlib.Numerals.{add-one}
 use mathlib.Core.Bool.{Bool, true, false, false≢true}
-use mathlib.Core.List.{List, [], _∷_, _++_, append-assoc, append-nil}
+use mathlib.Core.List.{List, _∷_, _++_, append-nil}
 use mathlib.Core.Option.{Option, none, some}
 use mathlib.Core.Path.{_≡_, refl, sym, ap, _∙_}
 use lib.ListN.{take}
 use Rattle.program.specs.declared.Row.{Row}
 use Rattle.program.specs.Test.{least}
 use Rattle.program.specs.Each.{collect}
-use Rattle.program.specs.Program.{Program}
 use Rattle.program.proofs.Test.{Least, none-passes, smallest, least-is, none-least}
+use Rattle.program.proofs.Each.{collect-append}
 use Rattle.format.specs.Limits.{rowLimit}
 use Rattle.format.specs.Text.{Bytes}
 use Rattle.format.specs.Structure.{boundEarlier}
@@ -35,11 +35,6 @@ unfolding storeProgram
 rows-before n r s h = take-counting n 0 r (storeRow s) h
 
 module _ (f : Row → List ℕ) where
-  collect-append : (xs ys : Program) → collect f (xs ++ ys) ≡ collect f xs ++ collect f ys
-  unfolding collect
-  collect-append [] ys = refl
-  collect-append (x ∷ xs) ys = rw (collect-append xs ys, append-assoc)
-
   collect-row : (r : ℕ) (s : Bytes) → collect f (storeProgram (r + 1) s) ≡ collect f (storeProgram r s) ++ f (storeRow s r)
   unfolding collect
   collect-row r s = rw (add-one, program-snoc, collect-append) (ap (λ l. collect f (storeProgram r s) ++ l) (append-nil (f (storeRow s r))))

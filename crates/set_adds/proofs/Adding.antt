@@ -11,20 +11,22 @@ use borrow.Author.Tests.{ne-eqb}
 use Rattle.program.specs.Test.{_⇒_, all}
 use Rattle.program.specs.Program.{Program}
 use Rattle.program.specs.Flow.{Abstract, row, Table, lies}
-use Rattle.program.proofs.Test.{and-left, and-right, and-intro, implies-elim}
+use Rattle.program.proofs.Test.{and-left, and-right, and-intro, implies-elim, or-neither}
 use Rattle.format.specs.Limits.{rowLimit}
 use Rattle.format.specs.Text.{Bytes, byteAt}
 use Rattle.format.specs.Document.{member}
-use Rattle.calls.specs.Layout.{memberLimit, rowSize, rowsSize, storeSize, flowAt, counting}
+use Rattle.calls.specs.Layout.{memberLimit, rowSize, rowsSize, storeSize, flowAt}
+use Rattle.calls.proofs.Codec.Sparse.{counting-same}
 use Rattle.inference.specs.Inference.{abstractOf}
+use Rattle.inference.proofs.Tables.{abstract-member}
 use Rattle.store.specs.Rows.{storeRow, storeProgram, cellsAt}
 use Rattle.store.proofs.Laws.{row-cells}
 use Rattle.tables.specs.Tables.{storeFlow, storeComm}
 use Rattle.sets.specs.Sets.{liesBelow}
 use Rattle.sets.proofs.Members.{lies-at}
 use Rattle.set_adds.specs.declared.Variable.{Variable}
-use Rattle.set_adds.specs.Adding.{setAt, positionOf, numberOf, joined, zeros, Flags, Inside, Rule, Adds, Copied, Joined}
-use Rattle.set_adds.proofs.Variables.{Has, has-iff, apart, behind-rows, before-claims, inside-iff, lies-below-iff, abstract-member}
+use Rattle.set_adds.specs.Adding.{setAt, positionOf, numberOf, joined, Flags, Inside, Rule, Adds, Copied, Joined}
+use Rattle.set_adds.proofs.Variables.{Has, has-iff, apart, behind-rows, before-claims, inside-iff, lies-below-iff}
 use Rattle.set_adds.proofs.Joining.{zeros-fall}
 
 -- ---- a set joined to another
@@ -194,9 +196,10 @@ module _ (n m : ℕ) (s : Bytes) (size : storeSize ≤ length s) (low : n < rowL
 
 -- ---- one change after the other
 
-or-false : (a b : Bool) → (a || b) ≡ false → (a ≡ false) × (b ≡ false)
-or-false true b e = absurd (false≢true (sym e))
-or-false false b e = (refl, e)
+-- a number that stays or falls, and falls where something was added, twice
+pub falls-then : {x y z : ℕ} → y ≤ x → z ≤ y → (a b : Bool) → (a ≡ true → y < x) → (b ≡ true → z < y) → (a || b) ≡ true → z < x
+falls-then h k true b f g e = omega (arith, f refl)
+falls-then h k false b f g e = omega (arith, g e)
 
 pub adds-none : (rule : Rule) (s : Bytes) → ((flow comm : Table) → So (rule flow comm)) → Adds rule s s false
 adds-none rule s h = record {
@@ -221,15 +224,11 @@ module _ (rule first second : Rule) (there : (flow comm : Table) → So (rule fl
     rest = λ q l. k .rest q l ∙ h .rest q l;
     flags = λ f. k .flags (h .flags f);
     fewer = omega (arith, h .fewer, k .fewer);
-    really = go a b (h .really) (k .really);
-    still = λ e. let (i, j) = or-false a b e in k .still j ∙ h .still i;
+    really = falls-then (h .fewer) (k .fewer) a b (h .really) (k .really);
+    still = λ e. let (i, j) = or-neither a b e in k .still j ∙ h .still i;
     inside = λ flow comm t i. k .inside flow comm (there flow comm t .1) (h .inside flow comm (there flow comm t .0) i);
-    kept = λ e. let (i, j) = or-false a b e in back _ _ (h .kept i) (rw (h .still i) at (k .kept j));
+    kept = λ e. let (i, j) = or-neither a b e in back _ _ (h .kept i) (rw (h .still i) at (k .kept j));
   }
-    where
-      go : (a b : Bool) → (a ≡ true → zeros s₁ < zeros s₀) → (b ≡ true → zeros s₂ < zeros s₁) → (a || b) ≡ true → zeros s₂ < zeros s₀
-      go true b f g e = omega (arith, f refl, k .fewer)
-      go false b f g e = omega (arith, g e, h .fewer)
 
 pub adds-then : {first second : Rule} {s₀ s₁ s₂ : Bytes} {a b : Bool} → Adds first s₀ s₁ a → Adds second s₁ s₂ b → Adds (λ flow comm. first flow comm && second flow comm) s₀ s₂ (a || b)
 adds-then {first} {second} h k = adds-both _ first second (λ flow comm t. (and-left _ _ t, and-right (first flow comm) _ t)) (λ flow comm t i. and-intro t i) h k
@@ -264,11 +263,6 @@ adds-other rule s n k t = record {
 
 -- ---- the program stays
 
-counting-same : {A : Type 0} (k i : ℕ) (f g : ℕ → A) → ((r : ℕ) → r < k + i → f r ≡ g r) → counting k i f ≡ counting k i g
-unfolding counting
-counting-same zero i f g h = refl
-counting-same (suc k) i f g h = rw (h i (omega arith), counting-same k (suc i) f g (λ r l. h r (omega arith)))
-
 row-stays : (s s′ : Bytes) → ((q : ℕ) → q < rowsSize → byteAt s′ q ≡ byteAt s q) → (r : ℕ) → r < rowLimit → storeRow s′ r ≡ storeRow s r
 unfolding cellsAt
 row-stays s s′ h r l =
@@ -288,7 +282,7 @@ row-stays s s′ h r l =
 
 pub rows-same : (rows : ℕ) (s s′ : Bytes) → rows ≤ rowLimit → ((q : ℕ) → q < rowsSize → byteAt s′ q ≡ byteAt s q) → storeProgram rows s′ ≡ storeProgram rows s
 unfolding storeProgram
-rows-same rows s s′ few h = counting-same rows 0 (storeRow s′) (storeRow s) (λ r l. row-stays s s′ h r (omega arith))
+rows-same rows s s′ few h = counting-same rows 0 (storeRow s′) (storeRow s) (λ r i l. row-stays s s′ h r (omega arith))
 
 pub program-stays : (rows : ℕ) {rule : Rule} {s s′ : Bytes} {more : Bool} → rows ≤ rowLimit → Adds rule s s′ more → storeProgram rows s′ ≡ storeProgram rows s
 program-stays rows {s = s} {s′} few h = rows-same rows s s′ few (h .rows)

@@ -3,7 +3,7 @@ use Prim.Native.Nat.{ℕ, _+_, _<_, _≤_}
 use native.Mathlib.Omega.{arith}
 use native.Mathlib.Decide.{decLt}
 use mathlib.Core.Bool.{_&&_, So, false≢true}
-use mathlib.Core.Path.{_≡_, refl, ap}
+use mathlib.Core.Path.{_≡_, ap}
 use mathlib.Core.Logic.{_↔_}
 use lib.Dec.{ltb, leb}
 use borrow.Author.Tests.{lt-ltb, ltb-true, lt-leb, le-leb}
@@ -13,8 +13,7 @@ use Rattle.program.proofs.Test.{and-left, and-right, and-intro, all-elim, all-i
 use Rattle.format.specs.Limits.{rowLimit}
 use Rattle.format.specs.Text.{Bytes, byteAt}
 use Rattle.format.specs.Document.{member}
-use Rattle.calls.specs.Layout.{memberLimit, rowsSize, setsSize, flowAt, commAt, claimsStart}
-use Rattle.inference.specs.Inference.{abstractOf}
+use Rattle.calls.specs.Layout.{memberLimit, rowsSize, flowAt, commAt, claimsStart}
 use Rattle.tables.specs.Tables.{flagAt, flowFlag, commFlag, storeFlow, storeComm}
 use Rattle.sets.specs.Sets.{liesBelow}
 use Rattle.set_adds.specs.declared.Variable.{Variable}
@@ -92,8 +91,3 @@ lies-below-iff n s t = (there, λ h. and-intro (implies-intro (s u) (h u (omega 
     there : So ((s u ⇒ t u) && all n (λ r. s (row r) ⇒ t (row r))) → (a : Abstract) → member a < n + 1 → So (s a) → So (t a)
     there h u l k = implies-elim (t u) (and-left _ _ h) k
     there h (row r) l k = implies-elim (t (row r)) (all-elim n (λ r. s (row r) ⇒ t (row r)) (and-right (s u ⇒ t u) _ h) r (unfold member in omega arith)) k
-
-pub abstract-member : (a : Abstract) → abstractOf (member a) ≡ a
-unfolding abstractOf member
-abstract-member u = refl
-abstract-member (row r) = refl

@@ -1,6 +1,6 @@
 -- The members of a set from one of their bytes on, and whether there is one.
 use Prim.Native.Nat.{ℕ, _+_, _<_, _≤_, max}
-use mathlib.Core.Bool.{Bool, _||_, or-false}
+use mathlib.Core.Bool.{Bool, _||_, or-false, or-true}
 use mathlib.Core.List.{[], _∷_}
 use mathlib.Core.Path.{_≡_, refl, sym}
 use native.Mathlib.Numerals.{add-one}
@@ -10,7 +10,6 @@ use lib.Dec.{ltb}
 use borrow.Author.Tests.{eq-eqb, ne-eqb, lt-ltb}
 use lib.ListN.{length, getD, drop, drop-of-length-le}
 use lib.Seq.{drop-cons}
-use Rattle.program.proofs.Test.{or-true}
 use Rattle.format.specs.Text.{Bytes}
 use Rattle.format.specs.Read.{present}
 use Rattle.calls.specs.Layout.{membersFrom}

@@ -5,11 +5,11 @@ use native.Mathlib.Decide.{decLt, ℕ-discrete as decEq}
 use native.Mathlib.Numerals.{add-one}
 use mathlib.Core.Bool.{Bool, true, false, _&&_}
 use mathlib.Core.List.{[]}
-use mathlib.Core.Path.{_≡_, refl, ap, _∙_, fun-ext}
+use mathlib.Core.Path.{_≡_, _∙_, fun-ext}
 use lib.ListN.{length, getD, take, drop, replicate, length-take, length-drop, set, length-set, length-replicate, List·getD-eq-default}
 use lib.Seq.{getD-take, getD-drop, getD-set-same, getD-set-other}
 use lib.Dec.{ltb, leb, eqb}
-use borrow.Author.Tests.{lt-ltb, le-ltb, le-leb, lt-leb, ne-eqb}
+use borrow.Author.Tests.{lt-ltb, le-leb, lt-leb, ne-eqb}
 use Rattle.program.specs.Test.{pick, _⇒_}
 use Rattle.program.specs.Flow.{u, Set, forEach, lies}
 use Rattle.format.specs.Limits.{rowLimit}
@@ -53,11 +53,6 @@ within-lies n a b k l = rw (add-one, set-full a k, set-full b l) (all-shift n _)
 pub lies-short : (n : ℕ) (a : Bytes) (t : Set) → length a < memberLimit → liesBelow n (setOf a) t ≡ true
 unfolding liesBelow
 lies-short n a t h = rw (set-short a h) (all-true n)
-
-pub getD-zeros : (n i : ℕ) → byteAt (replicate n 0) i ≡ 0
-getD-zeros zero i = refl
-getD-zeros (suc n) zero = refl
-getD-zeros (suc n) (suc i) = getD-zeros n i
 
 -- a set within one of no bytes
 pub within-short : (n : ℕ) (a b none : Bytes) → memberLimit ≤ length a → length b < memberLimit → ((i : ℕ) → byteAt none i ≡ 0) → within (n + 1) a none ≡ liesBelow n (setOf a) (setOf b)

@@ -1,11 +1,11 @@
 -- Equations between tests over the numbers below a bound.
 use Prim.Native.Nat.{ℕ, zero, suc, _<_}
 use native.Mathlib.Omega.{arith}
-use mathlib.Core.Bool.{Bool, true, false, _&&_}
+use mathlib.Core.Bool.{Bool, true, false, _&&_, and-false}
 use mathlib.Core.Logic.{⊎-elim}
 use mathlib.Core.Path.{_≡_, refl, ap, _∙_}
 use Rattle.program.specs.Test.{_⇒_, all}
-use Rattle.program.proofs.Test.{below, and-false}
+use Rattle.program.proofs.Test.{below}
 
 pub implies-true : (a : Bool) → a ⇒ true ≡ true
 implies-true true = refl

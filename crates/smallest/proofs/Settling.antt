@@ -9,7 +9,7 @@ use native.Mathlib.Decide.{ℕ-discrete as decEq}
 use mathlib.Core.Option.{Option, none, some}
 use Rattle.program.specs.Test.{least}
 use Rattle.program.specs.Flow.{Table, keepsAt, keepsAll}
-use Rattle.program.proofs.Test.{all-intro, Least as Smallest, least-is, none-passes, smallest}
+use Rattle.program.proofs.Test.{all-intro, Least as Smallest, least-is, none-passes, smallest, same-tests}
 use Rattle.least.specs.Least.{smallestFlow, smallestComm}
 use Rattle.program.proofs.FlowRule.{keeps-iff}
 use Rattle.least.proofs.Least.{smallest-keeps, smallest-lies}
@@ -119,11 +119,6 @@ module _ (n : ℕ) (s₀ s₁ s₂ : Bytes) (few : n ≤ rowLimit) (c : Cleared 
   same : storeProgram n s₁ ≡ storeProgram n s₀
   same = program-reset n few (c .resets)
 
-  both-ways : (a b : Bool) → (So a → So b) → (So b → So a) → a ≡ b
-  both-ways true b f g = sym (f refl)
-  both-ways false true f g = g refl
-  both-ways false false f g = refl
-
   pub least-left : Least n s₀ s₂
   unfolding Inside Flags
   least-left =
@@ -135,6 +130,6 @@ module _ (n : ℕ) (s₀ s₁ s₂ : Bytes) (few : n ≤ rowLimit) (c : Cleared 
       record {
         resets = resets-then (c .resets) (h .resets);
         flags = h .flags (λ q l m. rw (c .none q l m) (omega arith));
-        flows = fun-ext λ m. fun-ext λ a. both-ways _ _ (f m a) (i m a);
-        comms = fun-ext λ m. fun-ext λ a. both-ways _ _ (g m a) (j m a);
+        flows = fun-ext λ m. fun-ext λ a. same-tests _ _ (f m a) (i m a);
+        comms = fun-ext λ m. fun-ext λ a. same-tests _ _ (g m a) (j m a);
       }

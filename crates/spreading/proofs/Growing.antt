@@ -3,7 +3,6 @@ use Prim.Native.Nat.{ℕ, _+_, _<_, _≤_}
 use native.Mathlib.Omega.{arith}
 use mathlib.Core.Bool.{Bool, true, false, So, false≢true, _||_}
 use mathlib.Core.Path.{_≡_, refl, _∙_}
-use lib.ListN.{length}
 use Rattle.program.specs.Test.{pick}
 use Rattle.program.specs.Flow.{Table, keepsAt, keepsAll}
 use Rattle.program.proofs.Test.{all-elim}
@@ -15,7 +14,7 @@ use Rattle.set_adds.specs.Adding.{zeros, Rule, Adds}
 use Rattle.asks.specs.Asks.{Names}
 use Rattle.sync_adds.specs.Syncs.{Ready}
 use Rattle.spreading.specs.Growing.{Resets, Grows}
-use Rattle.set_adds.proofs.Adding.{rows-same}
+use Rattle.set_adds.proofs.Adding.{rows-same, falls-then}
 use Rattle.sync_adds.proofs.Syncing.{ready-same}
 
 -- ---- the program stays
@@ -44,13 +43,9 @@ grows-then n {s₀} {s₁} {s₂} {a} {b} few h k =
       resets = resets-then (h .resets) (k .resets);
       flags = λ f. k .flags (h .flags f);
       fewer = omega (arith, h .fewer, k .fewer);
-      really = go a b (h .really) (k .really);
+      really = falls-then (h .fewer) (k .fewer) a b (h .really) (k .really);
       inside = λ flow comm t i. k .inside flow comm (rw e t) (h .inside flow comm t i);
     }
-  where
-    go : (a b : Bool) → (a ≡ true → zeros s₁ < zeros s₀) → (b ≡ true → zeros s₂ < zeros s₁) → (a || b) ≡ true → zeros s₂ < zeros s₀
-    go true b f g e = omega (arith, f refl, k .fewer)
-    go false b f g e = omega (arith, g e, h .fewer)
 
 pub grows-on : (n : ℕ) {s₀ s₁ s₂ : Bytes} {b : Bool} → n ≤ rowLimit → Grows n s₀ s₁ false → Grows n s₁ s₂ b → Grows n s₀ s₂ false
 grows-on n few h k =

@@ -1,19 +1,19 @@
 -- The document in a store is the one that its bytes decode to, where as many rows are counted; and its tables.
 use Prim.Native.Nat.{ℕ, zero, suc, _+_, _*_, _≤_, _<_}
 use native.Mathlib.Omega.{arith}
-use native.Mathlib.Nat.{zero-add, suc-add}
-use mathlib.Core.List.{[], _∷_}
 use mathlib.Core.Path.{_≡_, refl, sym, ap, _∙_}
 use lib.ListN.{length, take, drop, length-take, length-drop}
-use lib.Seq.{getD-take, take-all, take-take, take-nil, drop-drop}
+use lib.Seq.{getD-take, take-all, take-take, drop-drop}
 use Rattle.format.specs.Limits.{rowLimit}
 use Rattle.format.specs.Text.{Bytes}
 use Rattle.format.specs.Structure.{flowLine, commLine, claimLine}
-use Rattle.calls.specs.Layout.{rowSize, memberLimit, rowsSize, setsSize, commsStart, claimsStart, storeSize, counting, decode, decodeSets, decodeClaims}
+use Rattle.calls.specs.Layout.{rowSize, memberLimit, rowsSize, setsSize, commsStart, claimsStart, storeSize, decode, decodeSets, decodeClaims}
 use Rattle.calls.specs.Canonical.{countRows}
 use Rattle.calls.specs.Judging.{flowTable, commTable}
 use Rattle.calls.proofs.Canonical.{rows-decoded}
 use Rattle.calls.proofs.Canonical.Rows.{count-rows-le}
+use Rattle.calls.proofs.Codec.Sparse.{counting-same}
+use Rattle.calls.proofs.Canonical.Lists.{drop-take}
 use Rattle.store.specs.Rows.{storeRow, storeProgram, cellsAt}
 use Rattle.store.specs.Document.{storeDocument, storeFlow, storeComm}
 use Rattle.store.proofs.Laws.{row-cells, program-length}
@@ -45,11 +45,6 @@ module _ (n : ℕ) (s : Bytes) where
 
 -- ---- bytes past a part do not matter
 
-drop-take : (b m : ℕ) (s : Bytes) → drop b (take (b + m) s) ≡ take m (drop b s)
-drop-take zero m s = rw zero-add
-drop-take (suc b) m [] = rw suc-add (sym (take-nil m))
-drop-take (suc b) m (x ∷ s) = rw (suc-add) (drop-take b m s)
-
 sets-take : (k n j : ℕ) (bs : Bytes) → decodeSets k n (take (k * memberLimit + j) bs) ≡ decodeSets k n bs
 unfolding decodeSets
 sets-take zero n j bs = refl
@@ -72,11 +67,6 @@ head-row s r h =
       getD-take storeSize s (p + 6) 0 (omega arith),
       getD-take storeSize s (p + 7) 0 (omega arith),
     ))
-
-counting-same : {A : Type 0} (n i : ℕ) (f g : ℕ → A) → ((r : ℕ) → r < n + i → f r ≡ g r) → counting n i f ≡ counting n i g
-unfolding counting
-counting-same zero i f g h = refl
-counting-same (suc n) i f g h = rw (h i (omega arith)) (ap (λ xs. g i ∷ xs) (counting-same n (suc i) f g λ r l. h r (omega arith)))
 
 -- ---- it is what the bytes of the fixed size decode to
 
@@ -111,7 +101,7 @@ module _ (n : ℕ) (s : Bytes) (e : n ≡ countRows rowLimit (take storeSize s))
   rows-same : storeProgram n s ≡ storeProgram n (take storeSize s)
   unfolding storeProgram
   rows-same =
-      sym (counting-same n 0 (storeRow (take storeSize s)) (storeRow s) λ r l. head-row s r (omega (arith, e, count-rows-le rowLimit (take storeSize s))))
+      sym (counting-same n 0 (storeRow (take storeSize s)) (storeRow s) λ r i l. head-row s r (omega (arith, e, count-rows-le rowLimit (take storeSize s))))
 
   flows-same : decodeSets rowLimit 0 (drop rowsSize (take storeSize s)) ≡ decodeSets rowLimit 0 (drop rowsSize s)
   flows-same = ap (decodeSets rowLimit 0) (drop-take rowsSize (setsSize + (setsSize + rowLimit)) s) ∙ sets-take rowLimit 0 (setsSize + rowLimit) (drop rowsSize s)

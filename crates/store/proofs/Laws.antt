@@ -1,12 +1,12 @@
 -- The rows of a store: a row by its bytes, the program of the first rows by its rows, and the rows that a store decodes to.
-use Prim.Native.Nat.{ℕ, zero, suc, _+_, _*_, _≤_, _<_}
+use Prim.Native.Nat.{ℕ, zero, suc, _+_, _*_, _≤_, _<_, _-_}
 use native.Mathlib.Omega.{arith}
 use native.Mathlib.Nat.{add-zero}
 use mathlib.Core.Bool.{false}
 use mathlib.Core.List.{[], _∷_, _++_}
 use mathlib.Core.Path.{_≡_, refl, ap, _∙_}
-use lib.ListN.{length, getD, take, drop}
-use lib.Seq.{getD-take, getD-drop, drop-drop}
+use lib.ListN.{length, getD, take, drop, replicate, length-drop}
+use lib.Seq.{getD-take, getD-drop, drop-drop, take-all}
 use lib.Dec.{eqb}
 use borrow.Author.Tests.{eq-eqb, ne-eqb}
 use Rattle.program.specs.declared.Row.{Row}
@@ -71,9 +71,24 @@ module _ (n : ℕ) (s : Bytes) where
   unfolding storeProgram
   program-snoc = rw add-zero at (counting-snoc n 0 (storeRow s))
 
+-- ---- parts of a store, as the code cuts them out
+
+-- what stands from a position on
+pub rest-all : (s : Bytes) (at : ℕ) → take (length s - at) (drop at s) ≡ drop at s
+rest-all s at = take-all (length s - at) (drop at s) (rw (length-drop at s) (omega arith))
+
+pub zeros-at : (k n : ℕ) → byteAt (replicate k 0) n ≡ 0
+zeros-at zero n = refl
+zeros-at (suc k) zero = refl
+zeros-at (suc k) (suc n) = zeros-at k n
+
+-- the bytes of row r
+abbrev pub rowPart : Bytes → ℕ → Bytes
+rowPart s r = take (r * rowSize + rowSize - r * rowSize) (drop (r * rowSize) s)
+
 -- ---- the rows that a store decodes to: those before the first of kind 0
 
-kind-at : (s : Bytes) (p : ℕ) → getD (drop p s) 0 0 ≡ byteAt s p
+pub kind-at : (s : Bytes) (p : ℕ) → getD (drop p s) 0 0 ≡ byteAt s p
 kind-at s p = rw add-zero at (getD-drop p s 0 0)
 
 decode-from : (s : Bytes) (k n i : ℕ) → n ≤ k → ((r : ℕ) → i ≤ r → r < n + i → byteAt s (r * rowSize) ≡ 0 → ⊥)

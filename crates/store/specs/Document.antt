@@ -1,10 +1,9 @@
 -- The document in a store of which the first n rows count, and its sets as tables.
 use Prim.Native.Nat.{ℕ, _+_}
-use mathlib.Core.Bool.{Bool}
 use lib.ListN.{take, drop}
 use lib.Dec.{ltb, leb}
 use Rattle.program.specs.Test.{pick}
-use Rattle.program.specs.Flow.{Abstract, Table}
+use Rattle.program.specs.Flow.{Table}
 use Rattle.format.specs.Limits.{rowLimit}
 use Rattle.format.specs.Text.{Bytes, byteAt}
 use Rattle.format.specs.Document.{Document, member}

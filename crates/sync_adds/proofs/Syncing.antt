@@ -1,6 +1,6 @@
 -- The rule of a sync, as changes of a store meet it.
 use Prim.Native.Nat.{ℕ, _<_, _≤_}
-use mathlib.Core.Bool.{Bool, false, _||_}
+use mathlib.Core.Bool.{Bool, false, _||_, and-true}
 use mathlib.Core.List.{List, _∷_}
 use mathlib.Core.Path.{_≡_, sym, _∙_}
 use Rattle.program.specs.declared.Form.{Form}
@@ -10,7 +10,6 @@ use Rattle.program.specs.Maybe.{when}
 use Rattle.program.specs.Test.{all}
 use Rattle.program.specs.Program.{Program, rowAt, isChan, chanAt}
 use Rattle.program.specs.Flow.{u, lies, forEach, forEachChan}
-use Rattle.program.proofs.Test.{and-true}
 use Rattle.format.specs.Limits.{rowLimit}
 use Rattle.format.specs.Text.{Bytes, byteAt}
 use Rattle.format.specs.Print.{formNumbers}

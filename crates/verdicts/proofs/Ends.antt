@@ -8,7 +8,6 @@ use mathlib.Core.Path.{_≡_, refl, sym, ap, ap₂, _∙_}
 use lib.ListN.{length}
 use lib.Dec.{ltb}
 use borrow.Author.Tests.{lt-ltb, le-ltb}
-use Rattle.program.specs.declared.Ends.{Ends}
 use Rattle.program.specs.Test.{pick, any}
 use Rattle.program.specs.Maybe.{has}
 use Rattle.program.specs.Program.{Program, forkAt}

@@ -1,14 +1,13 @@
 -- What is found at the two ends of a channel, from the marks of its places and of the rows that walks come to, and the words that follow.
-use Prim.Native.Nat.{ℕ, _*_, _<_, _≤_}
+use Prim.Native.Nat.{ℕ, _<_, _≤_}
 use native.Mathlib.Omega.{arith}
 use native.Mathlib.Nat.{zero-add}
-use mathlib.Core.Bool.{Bool, false, _&&_, _||_}
+use mathlib.Core.Bool.{Bool, false, _||_}
 use mathlib.Core.List.{[], _∷_, map}
 use mathlib.Core.Option.{none}
-use mathlib.Core.Path.{_≡_, refl, sym, ap, ap₂, _∙_}
+use mathlib.Core.Path.{_≡_, sym, ap, _∙_}
 use lib.ListN.{length}
 use lib.Dec.{eqb}
-use Rattle.program.specs.declared.Ends.{Ends}
 use Rattle.program.specs.declared.Facts.{Facts}
 use Rattle.program.specs.declared.Word.{Word}
 use Rattle.program.specs.declared.Word.the-variants.{OneShot, OneToOne, FanOut, FanIn}

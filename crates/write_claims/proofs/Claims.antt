@@ -1,13 +1,14 @@
 -- The lines of claims.
 use Prim.Native.Nat.{ℕ, suc, _+_, _<_, _≤_}
-use mathlib.Core.List.{List, [], _∷_, _++_, map, append-assoc, append-nil}
-use mathlib.Core.Path.{_≡_, refl, sym}
+use mathlib.Core.List.{List, [], _∷_, _++_, map, append-nil}
+use mathlib.Core.Path.{_≡_, refl}
 use native.Mathlib.Numerals.{add-one}
 use lib.ListN.{length, getD, drop, drop-of-length-le}
 use lib.Seq.{drop-cons}
 use lib.Dec.{eqb}
 use borrow.Author.Tests.{ne-eqb}
 use Rattle.program.specs.Each.{collect}
+use Rattle.program.proofs.Each.{collect-append}
 use Rattle.format.specs.Text.{Bytes}
 use Rattle.format.specs.Document.{Claim, claim}
 use Rattle.format.specs.Print.{lineText}
@@ -15,12 +16,6 @@ use Rattle.calls.specs.Layout.{wordOf, decodeClaims}
 use Rattle.calls.proofs.Codec.Sparse.{either}
 
 -- ---- lists, one after the other
-
-module _ {A : Type 0} (f : A → Bytes) where
-  pub collect-append : (xs ys : List A) → collect f (xs ++ ys) ≡ collect f xs ++ collect f ys
-  unfolding collect
-  collect-append [] ys = refl
-  collect-append (x ∷ xs) ys = rw (collect-append xs ys) (sym (append-assoc (f x) (collect f xs) (collect f ys)))
 
 map-append : {A B : Type 0} (g : A → B) (xs ys : List A) → map g (xs ++ ys) ≡ map g xs ++ map g ys
 map-append g [] ys = refl

@@ -1,26 +1,23 @@
 -- The texts in parts: what a loop writes in one turn, and what is left behind it.
 use Prim.Native.Nat.{ℕ, suc, _+_, _-_, _*_, _<_, _≤_}
-use mathlib.Core.List.{List, [], _++_}
+use mathlib.Core.List.{[], _++_}
 use mathlib.Core.Path.{_≡_}
 use native.Mathlib.Numerals.{add-one}
 use native.Mathlib.Omega.{arith}
-use lib.ListN.{length, getD, take, drop, length-take, length-drop, drop-of-length-le}
-use lib.Seq.{drop-cons, take-all}
+use lib.ListN.{length, getD, take, drop, length-take, length-drop}
+use lib.Seq.{take-all}
 use borrow.Author.Tests.{eq-eqb, ne-eqb}
 use Rattle.program.specs.Each.{collect}
-use Rattle.format.specs.Text.{Bytes, ascii, argument, arguments}
+use Rattle.format.specs.Text.{Bytes, ascii, argument}
 use Rattle.format.specs.Forms.{formOf}
 use Rattle.format.specs.Document.{row}
 use Rattle.format.specs.Print.{formText, rowText, lineText, rowLines}
 use Rattle.calls.specs.Layout.{rowSize, storeSize, counting, rowOf}
 use Rattle.store.specs.Rows.{storeRow, storeProgram}
+use Rattle.store.proofs.Laws.{rowPart}
 use Rattle.write_rows.specs.Texts.{resultText}
 
 -- ---- a row by its bytes
-
--- the bytes of row r as the code cuts them out
-abbrev pub rowPart : Bytes → ℕ → Bytes
-rowPart s r = take ((r * rowSize + rowSize) - r * rowSize) (drop (r * rowSize) s)
 
 module _ (s : Bytes) (r : ℕ) where
   row-part : storeRow s r ≡ rowOf (rowPart s r)

@@ -1,24 +1,23 @@
 -- Crude bounds on the lengths of texts: the text of a store's document is far shorter than 2 ^ 64 bytes.
-use Prim.Native.Nat.{ℕ, zero, suc, _+_, _*_, _/_, _%_, _<_, _≤_}
-use mathlib.Core.Bool.{Bool, true, false}
+use Prim.Native.Nat.{ℕ, zero, suc, _+_, _*_, _<_, _≤_}
 use mathlib.Core.List.{List, [], _∷_}
 use mathlib.Core.Path.{_≡_}
 use native.Mathlib.Omega.{arith}
 use lib.ListN.{length, take, drop, length-append, length-take, length-drop}
-use lib.Dec.{ltb, eqb}
+use lib.Dec.{eqb}
 use Rattle.program.specs.declared.Row.{Row}
 use Rattle.program.specs.declared.Bind.{Bind}
 use Rattle.program.specs.declared.Form.{Form}
 use Rattle.program.specs.declared.Form.the-variants.{Chan, Send, Recv, Pair, Left, Right, Fun, Spawn, Sync, First, Second, Case, Apply}
 use Rattle.program.specs.declared.Word.{Word}
 use Rattle.program.specs.declared.Word.the-variants.{OneShot, OneToOne, FanOut, FanIn, Many}
-use Rattle.program.specs.Test.{pick}
 use Rattle.program.specs.Each.{collect}
 use Rattle.program.specs.Program.{Program}
 use Rattle.format.specs.Limits.{rowLimit}
-use Rattle.format.specs.Text.{Bytes, ascii, place, digits, argument, arguments}
+use Rattle.format.specs.Text.{Bytes, ascii}
 use Rattle.format.specs.Document.{Claim, Document, row, claim}
 use Rattle.format.specs.Print.{formWord, formNumbers, formText, rowText, memberText, membersText, setText, wordText, lineText, rowLines, header, documentText}
+use Rattle.format.proofs.Lengths.{digits-length, argument-length, arguments-length}
 use Rattle.calls.specs.Layout.{memberLimit, rowsSize, storeSize, membersFrom, withEntry, decodeSets, wordOf, decodeClaims, commsStart, claimsStart}
 use Rattle.calls.proofs.Codec.Sparse.{either}
 use Rattle.store.proofs.Laws.{program-length}
@@ -28,29 +27,6 @@ use Rattle.write_sets.specs.Texts.{entryText}
 use Rattle.write_sets.proofs.Parts.{with-entry}
 use Rattle.write_claims.proofs.Claims.{claimsText}
 use Rattle.write_store.proofs.Parts.{document-parts, partsText, stored-parts}
-
--- ---- numbers
-
-pick-length : (k : ℕ) (b : Bool) (xs ys : Bytes) → length xs ≤ k → length ys ≤ k → length (pick b xs ys) ≤ k
-pick-length k true xs ys h i = h
-pick-length k false xs ys h i = i
-
-place-length : (n p : ℕ) → length (place n p) ≤ 1
-unfolding place
-place-length n p = pick-length 1 (ltb n p) [] ((48 + n / p % 10) ∷ []) (omega arith) (omega arith)
-
-digits-length : (n : ℕ) → length (digits n) ≤ 5
-unfolding digits
-digits-length n = simp length-append (omega (arith, place-length n 10000, place-length n 1000, place-length n 100, place-length n 10))
-
-argument-length : (n : ℕ) → length (argument n) ≤ 6
-unfolding argument
-argument-length n = omega (arith, digits-length n)
-
-arguments-length : (ns : List ℕ) → length (arguments ns) ≤ 6 * length ns
-unfolding arguments
-arguments-length [] = omega arith
-arguments-length (n ∷ ns) = simp length-append (omega (arith, argument-length n, arguments-length ns))
 
 -- ---- rows
 
@@ -112,7 +88,7 @@ members-from-length m (b ∷ bs) =
     either (eqb b 0) (λ e. rw (e, membersFrom) (omega arith)) (λ e. rw (e, membersFrom) (omega arith))
 
 module _ (word : Bytes) (short : length word ≤ 10) where
-  entry-length : (n : ℕ) (ms : List ℕ) → length ms ≤ 161 → length (collect (entryText word) (withEntry n ms [])) ≤ 1000
+  entry-length : (n : ℕ) (ms : List ℕ) → length ms ≤ memberLimit → length (collect (entryText word) (withEntry n ms [])) ≤ 1000
   unfolding collect withEntry entryText ascii
   entry-length n [] h = omega arith
   entry-length n (m ∷ ms) h = simp length-append (omega (arith, argument-length n, set-length (m ∷ ms)))
@@ -122,7 +98,7 @@ module _ (word : Bytes) (short : length word ≤ 10) where
   sets-length zero n bs = omega arith
   sets-length (suc k) n bs =
       let ms = membersFrom 0 (take memberLimit bs) in
-      let few : length ms ≤ 161 = omega (arith, members-from-length 0 (take memberLimit bs), length-take memberLimit bs) in
+      let few : length ms ≤ memberLimit = omega (arith, members-from-length 0 (take memberLimit bs), length-take memberLimit bs) in
       rw (with-entry (entryText word) n ms (decodeSets k (suc n) (drop memberLimit bs)), length-append)
       (omega (arith, entry-length n ms few, sets-length k (suc n) (drop memberLimit bs)))
 

@@ -1,11 +1,12 @@
 -- A document's text in parts.
 use Prim.Native.Nat.{ℕ, _-_}
 use mathlib.Core.List.{List, [], _∷_, _++_, map}
-use mathlib.Core.Path.{_≡_, refl, sym, _∙_}
+use mathlib.Core.Path.{_≡_, refl, _∙_}
 use native.Mathlib.Omega.{arith}
 use lib.ListN.{length, drop, take, length-drop}
 use lib.Seq.{take-all}
 use Rattle.program.specs.Each.{collect}
+use Rattle.program.proofs.Each.{collect-append}
 use Rattle.format.specs.Limits.{rowLimit}
 use Rattle.format.specs.Text.{Bytes, ascii}
 use Rattle.format.specs.Document.{Entry, Document, Line, flow, comm, claim}
@@ -14,7 +15,7 @@ use Rattle.calls.specs.Layout.{rowsSize, decodeSets, decodeClaims, commsStart, 
 use Rattle.store.specs.Rows.{storeProgram}
 use Rattle.store.specs.Document.{storeDocument}
 use Rattle.write_sets.specs.Texts.{entryText}
-use Rattle.write_claims.proofs.Claims.{collect-append, claimsText}
+use Rattle.write_claims.proofs.Claims.{claimsText}
 
 -- ---- a document
 

@@ -29,7 +29,7 @@ every-intro f (t & h) = and-intro t (every-intro f h)
 pub parts-iff : (a b s : Bytes) (n : ℕ) → length a ≡ n → (a ++ b ≡ s) ↔ ((a ≡ take n s) × (b ≡ drop n s))
 parts-iff a b s n e = (λ q. rw (← q) (sym (take-at a b n e), sym (drop-at a b n e)), λ (p, q). rw (p, q) (take-append-drop n s))
 
-drop-take : (n m : ℕ) (s : Bytes) → drop n (take (n + m) s) ≡ take m (drop n s)
+pub drop-take : (n m : ℕ) (s : Bytes) → drop n (take (n + m) s) ≡ take m (drop n s)
 drop-take zero m s = rw zero-add
 drop-take (suc n) m [] = ap (drop (suc n)) (take-nil (suc n + m)) ∙ sym (take-nil m)
 drop-take (suc n) m (x ∷ s) = rw suc-add (drop-take n m s)

@@ -1,8 +1,8 @@
 -- A line added to a document changes one part of the store, which was 0 before.
 use Prim.Native.Nat.{ℕ, zero, suc, _+_, _*_, _-_, _≤_, _<_}
 use native.Mathlib.Omega.{arith}
-use native.Mathlib.Nat.{add-zero, zero-add, suc-add, add-suc}
-use mathlib.Core.Bool.{Bool, true, false, So, false≢true}
+use native.Mathlib.Nat.{add-zero, zero-add}
+use mathlib.Core.Bool.{Bool, true, false, So}
 use mathlib.Core.List.{List, [], _∷_, _++_, append-assoc, append-nil}
 use mathlib.Core.Path.{_≡_, refl, sym, ap, _∙_}
 use mathlib.Core.Logic.{_≢_}
@@ -17,11 +17,11 @@ use Rattle.program.specs.Program.{Program}
 use Rattle.program.proofs.Test.{and-left, and-right}
 use Rattle.format.specs.Limits.{rowLimit}
 use Rattle.format.specs.Text.{Bytes}
-use Rattle.format.specs.Document.{Entry, Claim, Document, Line, row, flow, comm, claim, membersAt}
+use Rattle.format.specs.Document.{Entry, Claim, Document, row, flow, comm, claim, membersAt}
 use Rattle.format.specs.Read.{add, noLines}
 use Rattle.calls.specs.Layout.{rowSize, rowsSize, setsSize, commsStart, claimsStart, memberLimit, storeSize, flowAt, commAt, claimAt, counting, padded, rowBytes, flagsOf, setsBytes}
 use Rattle.calls.specs.Layout.{wordCode, claimCode, encode}
-use Rattle.calls.proofs.Codec.Sparse.{counting-length}
+use Rattle.calls.proofs.Codec.Sparse.{counting-length, counting-same}
 use Rattle.calls.proofs.Codec.Rows.{rows-length, row-size, rows-part-length}
 use Rattle.calls.proofs.Codec.Sets.{flags-length, sets-bytes-length}
 
@@ -133,11 +133,6 @@ counting-split f (suc k) m i =
     let q : suc i + k ≡ i + suc k = omega arith in
     rw e (ap (λ (x : Bytes). f i ∷ x) (counting-split f k m (suc i)) ∙ rw q)
 
-counting-same : (f h : ℕ → ℕ) (k i : ℕ) → ((n : ℕ) → i ≤ n → n < i + k → f n ≡ h n) → counting k i f ≡ counting k i h
-unfolding counting
-counting-same f h zero i e = refl
-counting-same f h (suc k) i e = rw (e i (omega arith) (omega arith), counting-same f h k (suc i) (λ n l m. e n (omega arith) (omega arith)))
-
 claim-other : (cs : List Claim) (c : Claim) (n : ℕ) → n ≢ c .channel → claimCode (cs ++ (c ∷ [])) n ≡ claimCode cs n
 unfolding claimCode
 claim-other [] c n d = rw (ne-eqb n (c .channel) d, claimCode)
@@ -172,8 +167,8 @@ claims-filled cs c h l =
       size = counting-length (c .channel) 0 f;
       was = ap (λ (n : ℕ). counting n 0 f) q ∙ counting-split f (c .channel) m 0 ∙ rw (z, old);
       is = ap (λ (n : ℕ). counting n 0 g) q ∙ counting-split g (c .channel) m 0 ∙ rw (
-        counting-same g f (c .channel) 0 (λ n a b. claim-other cs c n (λ d. omega arith)),
-        counting-same g f m (suc (0 + c .channel)) (λ n a b. claim-other cs c n (λ d. omega arith)),
+        counting-same (c .channel) 0 g f (λ n a b. claim-other cs c n (λ d. omega arith)),
+        counting-same m (suc (0 + c .channel)) g f (λ n a b. claim-other cs c n (λ d. omega arith)),
         z,
         new,
       );

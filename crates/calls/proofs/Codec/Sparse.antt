@@ -26,6 +26,12 @@ unfolding counting
 counting-length zero i f = refl
 counting-length (suc n) i f = ap suc (counting-length n (suc i) f)
 
+-- what two functions give of the numbers that are counted
+pub counting-same : {A : Type 0} (k i : ℕ) (f g : ℕ → A) → ((n : ℕ) → i ≤ n → n < k + i → f n ≡ g n) → counting k i f ≡ counting k i g
+unfolding counting
+counting-same zero i f g h = refl
+counting-same (suc k) i f g h = rw (h i (omega arith) (omega arith)) (ap (λ xs. g i ∷ xs) (counting-same k (suc i) f g λ n l m. h n (omega arith) (omega arith)))
+
 pub counting-each : {A : Type 0} {P : A → Type 0} (n i : ℕ) (f : ℕ → A) → ((k : ℕ) → P (f k)) → Each P (counting n i f)
 unfolding counting
 counting-each zero i f h = nil

@@ -1,7 +1,6 @@
 -- `word_of` meets its contract: in each arm the word of the code.
 use Rattle.calls.specs.Layout.{wordOf}
 use Rattle.claim_words.proofs.Codes.{code-other}
-use borrow.Author.Needs.{needs}
 use Rattle.claim_words.proofs.word_of.Statement.{statement}
 use Rattle.claim_words.proofs.word_of.Tie as tie
 

@@ -1,5 +1,5 @@
 -- `judge_claims` meets its contract. The loop's invariant: the claims from row c on, behind those that held, decide what all decide. The measure is the number of rows left.
-use Prim.Native.Nat.{_+_, _-_, _≤_}
+use Prim.Native.Nat.{_-_, _≤_}
 use native.Mathlib.Omega.{arith}
 use mathlib.Core.Path.{_≡_, sym, _∙_}
 use Rattle.format.specs.Limits.{rowLimit}

@@ -1,8 +1,7 @@
 -- The loop's invariant: no more than that there is a mark left. The measure is what is left.
 use Prim.Native.Nat.{_≤_, _-_}
-use native.Mathlib.Omega.{arith}
-use mathlib.Core.Path.{_≡_, refl}
-use lib.ListN.{length, length-set}
+use mathlib.Core.Path.{_≡_}
+use lib.ListN.{length}
 use borrow.Author.Needs.{needs}
 use Rattle.marks.proofs.age.Statement.{statement}
 use Rattle.marks.proofs.age.Tie as tie

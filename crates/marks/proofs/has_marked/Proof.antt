@@ -1,18 +1,16 @@
 -- The loop's invariant: no more than that there is a member left. The measure is what is left.
 use Prim.Native.Nat.{_≤_, _-_}
-use native.Mathlib.Omega.{arith}
-use mathlib.Core.Path.{_≡_, refl}
-use lib.ListN.{length, length-set}
 use borrow.Author.Needs.{needs}
+use Rattle.calls.specs.Layout.{memberLimit}
 use Rattle.marks.proofs.has_marked.Statement.{statement}
 use Rattle.marks.proofs.has_marked.Tie as tie
 
 abbrev Inv-loop : tie.InvT-loop
 Inv-loop store marks n from found₀ i₀ found i =
-    i ≤ 161
+    i ≤ memberLimit
 
 abbrev μ-loop : tie.MeasureT-loop
-μ-loop store marks n from found₀ i₀ found i = 161 - i
+μ-loop store marks n from found₀ i₀ found i = memberLimit - i
 
 mul-from : tie.Need-mul-from Inv-loop μ-loop
 mul-from c = search needs

@@ -1,18 +1,18 @@
 -- The loop's invariant: no more than that there is a member left. The measure is what is left.
 use Prim.Native.Nat.{_≤_, _-_}
-use native.Mathlib.Omega.{arith}
-use mathlib.Core.Path.{_≡_, refl}
+use mathlib.Core.Path.{_≡_}
 use lib.ListN.{length}
 use borrow.Author.Needs.{needs}
+use Rattle.calls.specs.Layout.{memberLimit}
 use Rattle.marks.proofs.join_given.Statement.{statement}
 use Rattle.marks.proofs.join_given.Tie as tie
 
 abbrev Inv-loop : tie.InvT-loop
 Inv-loop store marks₀ k c from to i₀ marks i =
-    (i ≤ 161) × (length marks ≡ length marks₀)
+    (i ≤ memberLimit) × (length marks ≡ length marks₀)
 
 abbrev μ-loop : tie.MeasureT-loop
-μ-loop store marks₀ k c from to i₀ marks i = 161 - i
+μ-loop store marks₀ k c from to i₀ marks i = memberLimit - i
 
 mul-from : tie.Need-mul-from Inv-loop μ-loop
 mul-from c = search needs

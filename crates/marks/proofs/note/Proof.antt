@@ -1,18 +1,19 @@
 -- The loop's invariant: no more than that there is a row left. The measure is what is left.
 use Prim.Native.Nat.{_≤_, _-_}
 use native.Mathlib.Omega.{arith}
-use mathlib.Core.Path.{_≡_, refl}
+use mathlib.Core.Path.{_≡_}
 use lib.ListN.{length, length-set}
 use borrow.Author.Needs.{needs}
+use Rattle.format.specs.Limits.{rowLimit}
 use Rattle.marks.proofs.note.Statement.{statement}
 use Rattle.marks.proofs.note.Tie as tie
 
 abbrev Inv-loop : tie.InvT-loop
 Inv-loop marks₀ parts n k₀ marks k =
-    (k ≤ 160) × (length marks ≡ length marks₀)
+    (k ≤ rowLimit) × (length marks ≡ length marks₀)
 
 abbrev μ-loop : tie.MeasureT-loop
-μ-loop marks₀ parts n k₀ marks k = 160 - k
+μ-loop marks₀ parts n k₀ marks k = rowLimit - k
 
 returns : tie.Need-returns Inv-loop μ-loop
 returns c = search needs

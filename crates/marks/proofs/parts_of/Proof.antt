@@ -1,7 +1,6 @@
 -- The loop's invariant: no more than that there is a row left. The measure is what is left.
 use Prim.Native.Nat.{_≤_, _-_}
-use native.Mathlib.Omega.{arith}
-use mathlib.Core.Path.{_≡_, refl}
+use mathlib.Core.Path.{_≡_}
 use lib.ListN.{length}
 use borrow.Author.Needs.{needs}
 use Rattle.marks.proofs.parts_of.Statement.{statement}

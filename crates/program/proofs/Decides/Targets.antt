@@ -6,7 +6,7 @@ use mathlib.Core.Option.{some}
 use mathlib.Core.Path.{_≡_}
 use mathlib.Core.Logic.{⊎-elim}
 use lib.ListN.{length}
-use lib.Dec.{eqb, ltb}
+use lib.Dec.{eqb}
 use borrow.Author.Tests.{eqb-true, ltb-true}
 use Rattle.program.specs.declared.Bind.{Bind}
 use Rattle.program.specs.declared.Form.{Form}
@@ -14,7 +14,7 @@ use Rattle.program.specs.Flow.{row, Table}
 use Rattle.program.specs.Maybe.{has}
 use Rattle.program.specs.Program.{Program, bindAt, formAt, funAt, forkAt, caseOf, applyOf, leftAt, rightAt, rowsOf, pointers}
 use Rattle.program.specs.Test.{any}
-use Rattle.program.specs.Walk.{Sides, always, enters, someCalled, toRest, toChild, toCalled, toCaller, edge}
+use Rattle.program.specs.Walk.{Sides, enters, someCalled, toRest, toChild, toCalled, toCaller, edge}
 use Rattle.program.specs.Each.{Each, nil, _&_}
 use Rattle.program.proofs.Each.{each-imp, each-left}
 use Rattle.program.proofs.Maybe.{Found, found, found-self, found-bind, found-at, found-map, has-elim}

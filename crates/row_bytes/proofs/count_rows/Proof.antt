@@ -2,7 +2,7 @@
 use borrow.Author.Needs.{needs}
 use Prim.Native.Nat.{_≤_, _-_}
 use native.Mathlib.Omega.{arith}
-use mathlib.Core.Path.{_≡_, sym, _∙_}
+use mathlib.Core.Path.{sym, _∙_}
 use Rattle.format.specs.Limits.{rowLimit}
 use Rattle.row_bytes.proofs.Counting.{CountedTo, counted-none, counted-stops, counted-goes, counted-all}
 use Rattle.row_bytes.proofs.count_rows.Statement.{statement}

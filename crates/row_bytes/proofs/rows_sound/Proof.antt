@@ -2,7 +2,7 @@
 use borrow.Author.Needs.{needs}
 use Prim.Native.Nat.{_≤_}
 use native.Mathlib.Omega.{arith}
-use mathlib.Core.Path.{_≡_, refl, sym, _∙_}
+use mathlib.Core.Path.{refl, sym, _∙_}
 use Rattle.row_bytes.proofs.FirstRows.{SoundTo, rows-go, rows-fail, rows-end}
 use Rattle.row_bytes.proofs.rows_sound.Statement.{statement}
 use Rattle.row_bytes.proofs.rows_sound.Tie as tie

@@ -1,11 +1,10 @@
 -- `meets` meets its contract. The loop's invariant: `found` is not 0 exactly if one of the first i rows is in both sets. The measure is the number of rows left.
 use Prim.Native.Nat.{_≤_, _-_}
 use native.Mathlib.Omega.{arith}
-use native.Mathlib.Numerals.{add-one}
-use mathlib.Core.Path.{_≡_, refl, _∙_}
+use mathlib.Core.Path.{_≡_, refl}
 use lib.Dec.{ltb}
 use Rattle.program.specs.Test.{any}
-use Rattle.row_marks.specs.RowMarks.{on, meets}
+use Rattle.row_marks.specs.RowMarks.{meets}
 use Rattle.row_marks.proofs.Marking.{meets-more}
 use borrow.Author.Needs.{needs}
 use Rattle.row_marks.proofs.meets.Statement.{statement}

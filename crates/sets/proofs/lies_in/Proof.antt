@@ -2,9 +2,10 @@
 use mathlib.Core.Path.{sym, _∙_}
 use borrow.Author.Needs.{needs}
 use Rattle.calls.specs.Layout.{memberLimit}
-use Rattle.sets.proofs.Members.{lies-short, within-short, within-lies, getD-zeros}
+use Rattle.sets.proofs.Members.{lies-short, within-short, within-lies}
 use Rattle.sets.proofs.lies_in.Statement.{statement}
 use Rattle.sets.proofs.lies_in.Tie as tie
+use Rattle.store.proofs.Laws.{zeros-at}
 
 add-members : tie.Need-add-members
 add-members c = search needs
@@ -19,7 +20,7 @@ within-requires : tie.Need-within-requires
 within-requires c κs = search needs
 
 returns-2 : tie.Need-returns-2
-returns-2 c = c .within .ensures ∙ within-short _ _ _ _ (c .before .before .before .if1 .left) (c .before .before .if2 .taken) (getD-zeros memberLimit)
+returns-2 c = c .within .ensures ∙ within-short _ _ _ _ (c .before .before .before .if1 .left) (c .before .before .if2 .taken) (zeros-at memberLimit)
 
 within-requires-2 : tie.Need-within-requires-2
 within-requires-2 c κs = search needs

@@ -1,5 +1,5 @@
 -- The loop's invariant: the sets are empty up to byte i. The measure is what is left of the store.
-use Prim.Native.Nat.{_+_, _≤_, _-_}
+use Prim.Native.Nat.{_≤_, _-_}
 use native.Mathlib.Omega.{arith}
 use mathlib.Core.Path.{_≡_, refl}
 use lib.ListN.{length, length-set}

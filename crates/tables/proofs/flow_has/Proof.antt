@@ -1,5 +1,5 @@
 -- `flow_has` meets its contract: the byte of the row's member, or no such row.
-use mathlib.Core.Path.{sym, _∙_}
+use mathlib.Core.Path.{sym}
 use borrow.Author.Needs.{needs}
 use Rattle.tables.proofs.Tables.{row-past, row-flag}
 use Rattle.tables.proofs.flow_has.Statement.{statement}

@@ -1,5 +1,4 @@
 -- The five writes, one after the other, are the parts of the document's text (`stored-parts`), whose length fits a usize (`stored-room`).
-use Prim.Native.Nat.{_+_}
 use native.Mathlib.Omega.{arith}
 use borrow.Author.Needs.{needs}
 use Rattle.format.specs.Print.{header}

@@ -1,9 +1,9 @@
 -- `case_passes` meets its contract: a row that is neither a left nor a right passes.
 use mathlib.Core.Path.{sym, _∙_}
+use mathlib.Core.Bool.{and-true}
 use borrow.Author.Needs.{needs}
 use Rattle.program.specs.Maybe.{when}
 use Rattle.asks.specs.Asks.{asks}
-use Rattle.program.proofs.Test.{and-true}
 use Rattle.forms.proofs.Forms.{kinds, but, left-at, right-at, no-left, no-right}
 use Rattle.asks.proofs.rules.case_passes.Statement.{statement}
 use Rattle.asks.proofs.rules.case_passes.Tie as tie
