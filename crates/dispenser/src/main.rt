@@ -1,6 +1,6 @@
 // Reads a task file from standard input and prints its report: the count of its claims and each channel's verdict, or its refusal.
 use calls::WriteAnswer;
-use reporting::REPORT_BYTES;
+use lent_sizes::REPORT_BYTES;
 use store::Store;
 
 // A longer file than may be loaded is read by one byte more, which is enough to refuse it.

@@ -1,5 +1,5 @@
-// The checker's calls as C functions on numbers and byte slices; `include/dispenser.h` declares them. A slice is a pointer and a length. An answer is one number, packed as `Packing` of crate packing says.
-use store::Store;
+// The checker's calls as C functions on numbers and byte slices; `include/dispenser.h` declares them.
+// A slice is a pointer and a length. An answer is one number, packed as `Packing` of crate packing says.
 ghost use mathlib.Core.Path.{_≡_};
 ghost use Rattle.calls.specs.Layout.{storeSize};
 ghost use Rattle.calls.specs.Calls.{load, judge, verdict, write};
@@ -13,7 +13,7 @@ ghost use Rattle.packing.specs.Packing.{packed, countBits, wordBits, numberBits
 pub extern "C" fn dispenser_store_size() -> u64
     ensures { λ n. ⌜ n ≡ storeSize ⌝ }
 {
-    Store::SIZE as u64
+    lent_sizes::store_size()
 }
 
 // Loads a file into the lent store: rows, flows, comms and claims.
@@ -22,8 +22,7 @@ pub extern "C" fn dispenser_load(file: &[u8], store: &mut [u8]) -> u64
     ensures { λ n. ⌜ n ≡ packed countBits (loadAnswer (load (now (file .entry)) (now (store .entry)) .answer)) ⌝ }
     ensures { λ _. ⌜ now (store .exit) ≡ load (now (file .entry)) (now (store .entry)) .bytes ⌝ }
 {
-    let answer = checker::load(file, store);
-    packing::pack_load(answer)
+    packed_load::load(file, store)
 }
 
 // Judges the claims of a store: how many there are.
@@ -32,8 +31,7 @@ pub extern "C" fn dispenser_judge(store: &[u8]) -> u64
     ensures { λ n. ⌜ n ≡ packed numberBits (judgeAnswer (judge (now (store .entry)))) ⌝ }
     ensures { λ _. ⌜ now (store .exit) ≡ now (store .entry) ⌝ }
 {
-    let answer = checker::judge(store);
-    packing::pack_judge(answer)
+    packed_judge::judge(store)
 }
 
 // The verdict of a channel row: its four words.
@@ -42,8 +40,7 @@ pub extern "C" fn dispenser_verdict(store: &[u8], channel: usize) -> u64
     ensures { λ n. ⌜ n ≡ packed wordBits (verdictAnswer (verdict (now (store .entry)) channel)) ⌝ }
     ensures { λ _. ⌜ now (store .exit) ≡ now (store .entry) ⌝ }
 {
-    let answer = checker::verdict(store, channel);
-    pack_words::pack_verdict(answer)
+    packed_verdict::verdict(store, channel)
 }
 
 // Writes the text of a store into the lent output: the bytes written.
@@ -52,8 +49,7 @@ pub extern "C" fn dispenser_write(store: &[u8], out: &mut [u8]) -> u64
     ensures { λ n. ⌜ n ≡ packed numberBits (writeAnswer (write (now (store .entry)) (now (out .entry)) .answer)) ⌝ }
     ensures { λ _. ⌜ now (out .exit) ≡ write (now (store .entry)) (now (out .entry)) .bytes ⌝ }
 {
-    let answer = checker::write(store, out);
-    packing::pack_write(answer)
+    packed_write::write(store, out)
 }
 
 // Puts the smallest tables in the place of the lent store's own: rows, flows, comms and claims then.
@@ -62,8 +58,7 @@ pub extern "C" fn dispenser_infer(store: &mut [u8]) -> u64
     ensures { λ n. ⌜ n ≡ packed countBits (loadAnswer (infer (now (store .entry)) .answer)) ⌝ }
     ensures { λ _. ⌜ now (store .exit) ≡ infer (now (store .entry)) .bytes ⌝ }
 {
-    let answer = checker::infer(store);
-    packing::pack_load(answer)
+    packed_infer::infer(store)
 }
 
 // The bytes that the output of a report must have.
@@ -71,7 +66,7 @@ pub extern "C" fn dispenser_infer(store: &mut [u8]) -> u64
 pub extern "C" fn dispenser_report_size() -> u64
     ensures { λ n. ⌜ n ≡ reportLimit ⌝ }
 {
-    reporting::REPORT_BYTES as u64
+    lent_sizes::report_size()
 }
 
 // Writes the report of a file into the lent output, and loads the file into the lent store: the bytes written.
@@ -81,6 +76,5 @@ pub extern "C" fn dispenser_report(file: &[u8], store: &mut [u8], out: &mut [u8]
     ensures { λ _. ⌜ now (store .exit) ≡ reported (now (file .entry)) (now (store .entry)) (now (out .entry)) .store ⌝ }
     ensures { λ _. ⌜ now (out .exit) ≡ reported (now (file .entry)) (now (store .entry)) (now (out .entry)) .out ⌝ }
 {
-    let answer = reporting::report(file, store, out);
-    packing::pack_write(answer)
+    packed_report::report(file, store, out)
 }

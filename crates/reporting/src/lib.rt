@@ -6,27 +6,37 @@ use channel_lines::put_channels;
 use format::Reason;
 use format::Refusal;
 use grids::GRID;
+use lent_sizes::REPORT_BYTES;
 use opening::Opened;
 use report_lines::put_accepted;
 use report_lines::put_refused;
 use store::Store;
 ghost use Prim.Native.Nat.{_≤_};
-ghost use lib.ListN.{length};
+ghost use lib.ListN.{length, take};
 ghost use mathlib.Core.Path.{_≡_};
 ghost use Rattle.calls.specs.Layout.{storeSize};
 ghost use Rattle.calls.specs.Calls.{opened};
 ghost use Rattle.report.specs.Report.{checkedText, report, reportLimit, LeavesReport, reported};
 ghost use Rattle.write_bytes.specs.Write.{Wrote};
+ghost use Rattle.opening.specs.declared.Opened.{Opened};
+ghost use Rattle.opening.specs.Opening.{OpenedIs};
 ghost use Rattle.reporting.specs.Reports.{FileReported};
 
-// No report is longer: 32 bytes for each row's line and for a first line.
-pub const REPORT_BYTES: usize = 32 * (Store::ROWS + 1);
-
-// The same number.
-pub fn report_limit() -> usize
-    ensures { λ n. ⌜ n ≡ reportLimit ⌝ }
+// Writes the report of a store that opens, with so many rows: what judging it gives.
+fn put_judged(out: &mut [u8], store: &[u8], rows: u8) -> usize
+    requires { ⌜ OpenedIs (opened (now store)) (take storeSize (now store)) (Opened.Rows rows) ⌝ }
+    ensures { λ r. ⌜ Wrote (now (out .entry)) 0 (checkedText (opened (now (store .entry)))) r (now (out .exit)) ⌝ }
 {
-    REPORT_BYTES
+    let fixed = &store[..Store::SIZE];
+    let mut grid = [0u8; GRID];
+    match judging::judge_store(fixed, rows, &mut grid) {
+        JudgeAnswer::Refused(refusal) => put_refused(out, 0, refusal),
+        JudgeAnswer::Accepted(claims) => {
+            let count = claims as u16;
+            let next = put_accepted(out, 0, count);
+            put_channels(out, next, fixed, rows, &grid)
+        }
+    }
 }
 
 // Writes the report of a store: why it does not open, or what judging it gives.
@@ -35,18 +45,7 @@ fn put_store(out: &mut [u8], store: &[u8]) -> usize
 {
     match opening::open(store) {
         Opened::Refused(refusal) => put_refused(out, 0, refusal),
-        Opened::Rows(rows) => {
-            let fixed = &store[..Store::SIZE];
-            let mut grid = [0u8; GRID];
-            match judging::judge_store(fixed, rows, &mut grid) {
-                JudgeAnswer::Refused(refusal) => put_refused(out, 0, refusal),
-                JudgeAnswer::Accepted(claims) => {
-                    let count = claims as u16;
-                    let next = put_accepted(out, 0, count);
-                    put_channels(out, next, fixed, rows, &grid)
-                }
-            }
-        }
+        Opened::Rows(rows) => put_judged(out, store, rows),
     }
 }
 
