@@ -85,7 +85,7 @@ fn keep_row(file: &[u8], at: usize, n: u16, store: &mut [u8], p: Progress) -> Li
         return LineRead::Refused(reason);
     }
     let row = raw_rows::row_of(raw);
-    stored_rows::put_row(store, n as u8, row);
+    kept_rows::put_row(store, n as u8, row);
     LineRead::Kept(p.with_row(), next)
 }
 

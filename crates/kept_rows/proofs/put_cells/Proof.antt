@@ -3,8 +3,8 @@ use native.Mathlib.Omega.{arith}
 use native.Mathlib.Numerals.{towards-suc}
 use lib.ListN.{length-set}
 use borrow.Author.Needs.{needs}
-use Rattle.stored_rows.proofs.put_cells.Statement.{statement}
-use Rattle.stored_rows.proofs.put_cells.Tie as tie
+use Rattle.kept_rows.proofs.put_cells.Statement.{statement}
+use Rattle.kept_rows.proofs.put_cells.Tie as tie
 
 mul-p : tie.Need-mul-p
 mul-p c = search needs

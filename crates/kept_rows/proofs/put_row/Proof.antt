@@ -1,7 +1,7 @@
 -- `put_row` meets its contract: the bytes that are put are those of the row.
 use borrow.Author.Needs.{needs}
-use Rattle.stored_rows.proofs.put_row.Statement.{statement}
-use Rattle.stored_rows.proofs.put_row.Tie as tie
+use Rattle.kept_rows.proofs.put_row.Statement.{statement}
+use Rattle.kept_rows.proofs.put_row.Tie as tie
 
 cells-of-requires : tie.Need-cells-of-requires
 cells-of-requires c κs = search needs

@@ -3,8 +3,8 @@ use borrow.Author.Needs.{needs}
 use Rattle.format.specs.Print.{formNumbers}
 use Rattle.format.specs.Forms.{formCode}
 use Rattle.calls.specs.Layout.{rowBytes, padded}
-use Rattle.stored_rows.proofs.cells_of_form.Statement.{statement}
-use Rattle.stored_rows.proofs.cells_of_form.Tie as tie
+use Rattle.kept_rows.proofs.cells_of_form.Statement.{statement}
+use Rattle.kept_rows.proofs.cells_of_form.Tie as tie
 
 enum-told : tie.Need-enum-told
 enum-told c = search needs

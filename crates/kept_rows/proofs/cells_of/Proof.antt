@@ -1,8 +1,8 @@
 -- `cells_of` meets its contract: the bytes of a result compute, those of a bind are what `cells_of_form` ensures.
 use borrow.Author.Needs.{needs}
 use Rattle.calls.specs.Layout.{rowBytes, padded}
-use Rattle.stored_rows.proofs.cells_of.Statement.{statement}
-use Rattle.stored_rows.proofs.cells_of.Tie as tie
+use Rattle.kept_rows.proofs.cells_of.Statement.{statement}
+use Rattle.kept_rows.proofs.cells_of.Tie as tie
 
 enum-known-row : tie.Need-enum-known-row
 enum-known-row c = search needs
