@@ -1,4 +1,3 @@
 -- What infer leaves: the bytes and the counts of the document with the smallest tables.
-pub mod Counting
 pub mod Stores
 pub mod Outcomes

@@ -3,7 +3,7 @@ use Prim.Native.Nat.{ℕ, _-_, _≤_}
 use native.Mathlib.Omega.{arith}
 use mathlib.Core.Path.{_≡_, refl, sym, ap, _∙_}
 use lib.ListN.{length, take, drop, length-take}
-use lib.Seq.{drop-drop, take-at}
+use lib.Seq.{take-at}
 use Rattle.format.specs.declared.Refusal.{Refusal}
 use Rattle.format.specs.Limits.{rowLimit}
 use Rattle.format.specs.Text.{Bytes}
@@ -13,40 +13,22 @@ use Rattle.format.proofs.Structure.{orderly-of}
 use Rattle.program.specs.Program.{Program}
 use Rattle.calls.specs.declared.Counts.{Counts}
 use Rattle.calls.specs.declared.LoadAnswer.{LoadAnswer}
-use Rattle.calls.specs.Layout.{rowsSize, setsSize, claimsStart, commsStart, storeSize, encode, decode, decodeSets, decodeClaims}
+use Rattle.calls.specs.Layout.{storeSize, encode, decode}
 use Rattle.calls.specs.Canonical.{countRows}
-use Rattle.calls.specs.Calls.{Leaves, opened, counts, refilled}
+use Rattle.calls.specs.Calls.{Leaves, opened, refilled}
 use Rattle.inference.specs.Inference.{smallestDocument, inferred, infer}
 use Rattle.calls.proofs.Codec.{encode-length, decode-encode}
-use Rattle.calls.proofs.Canonical.{drop-thrice}
 use Rattle.calls.proofs.Calls.{opened-is}
 use Rattle.inference.proofs.Inference.{smallest-well}
-use Rattle.store.proofs.Laws.{program-length, rest-all}
+use Rattle.store.proofs.Laws.{program-length}
 use Rattle.opening.specs.declared.Opened.{Opened}
 use Rattle.opening.specs.Opening.{OpenedIs}
 use Rattle.opening.proofs.Opening.{refused-is, opens-is}
 use Rattle.sync_adds.specs.Syncs.{Ready}
 use Rattle.smallest.specs.Smallest.{Least}
 use Rattle.call_infer.proofs.Stores as stores
-use Rattle.call_infer.specs.Counting.{storeCounts}
-
--- the parts of a store behind its rows
-pub counted : (n f c k : ℕ) (s : Bytes)
-    → f ≡ length (decodeSets rowLimit 0 (take (length s - rowsSize) (drop rowsSize s)))
-    → c ≡ length (decodeSets rowLimit 0 (take (length s - commsStart) (drop commsStart s)))
-    → k ≡ length (decodeClaims 0 (take (length s - claimsStart) (drop claimsStart s)))
-    → _≡_ {A = Counts} (record { rows = n; flows = f; comms = c; claims = k }) (storeCounts n s)
-unfolding storeCounts decode
-counted n f c k s e g h =
-    let a = e ∙ ap (λ (x : Bytes). length (decodeSets rowLimit 0 x)) (rest-all s rowsSize) in
-    let d = g ∙ ap (λ (x : Bytes). length (decodeSets rowLimit 0 x)) (rest-all s commsStart ∙ sym (drop-drop setsSize rowsSize s)) in
-    let b = h ∙ ap (λ (x : Bytes). length (decodeClaims 0 x)) (rest-all s claimsStart ∙ sym (drop-thrice rowsSize setsSize setsSize s)) in
-    λ i. record { rows = n; flows = a i; comms = d i; claims = b i }
-
--- the counts of a document's own bytes
-own-counts : (n : ℕ) (s : Bytes) (d : Document) → n ≡ length (d .rows) → decode s ≡ d → storeCounts n s ≡ counts d
-unfolding storeCounts counts
-own-counts n s d e q = λ i. record { rows = e i; flows = length (q i .flows); comms = length (q i .comms); claims = length (q i .claims) }
+use Rattle.line_counts.specs.Counting.{storeCounts}
+use Rattle.line_counts.proofs.Counting.{own-counts}
 
 same-rows : (d : Document) → smallestDocument d .rows ≡ d .rows
 unfolding smallestDocument

@@ -1,5 +1,5 @@
 -- `accept` meets its contract, which is that of load and judge in turn.
-use Rattle.acceptance.proofs.Accepting.{file-refused, file-judged}
+use Rattle.accepting.proofs.Accepting.{file-refused, file-judged}
 use borrow.Author.Needs.{needs}
 use Rattle.acceptance.proofs.accept.Statement.{statement}
 use Rattle.acceptance.proofs.accept.Tie as tie

@@ -4,10 +4,10 @@ use native.Mathlib.Omega.{arith}
 use mathlib.Core.Path.{_≡_}
 use lib.ListN.{length}
 use borrow.Author.Needs.{needs}
-use Rattle.call_infer.proofs.Counting.{claimsFrom, claim-skipped, claim-counted, claims-end}
+use Rattle.line_counts.proofs.Counting.{claimsFrom, claim-skipped, claim-counted, claims-end}
 use native.Mathlib.Nat.{zero-add}
-use Rattle.call_infer.proofs.count_claims.Statement.{statement}
-use Rattle.call_infer.proofs.count_claims.Tie as tie
+use Rattle.line_counts.proofs.count_claims.Statement.{statement}
+use Rattle.line_counts.proofs.count_claims.Tie as tie
 
 abbrev Inv-loop : tie.InvT-loop
 Inv-loop codes lines₀ c₀ lines c =

@@ -10,7 +10,7 @@ use Rattle.calls.specs.declared.JudgeAnswer.{JudgeAnswer}
 use Rattle.calls.specs.Answers.{refusalAnswer, loadAnswer, judgeAnswer}
 use Rattle.calls.specs.Calls.{Leaves, unaltered, load, judge}
 use Rattle.demands.proofs.Promises.{sound}
-use Rattle.acceptance.specs.Accepting.{ClaimsFit, SoundFile, judgedAfter, Accepts}
+use Rattle.accepting.specs.Accepting.{ClaimsFit, SoundFile, judgedAfter, Accepts}
 
 module _ (file store : Bytes) {left : Bytes} where
   pub file-refused : {r : Refusal} → Leaves (load file store) (LoadAnswer.Refused r) left → Accepts file store (JudgeAnswer.Refused r) left

@@ -1,8 +1,8 @@
 -- `store_counts` meets its contract: each part of the store is counted.
 use borrow.Author.Needs.{needs}
-use Rattle.call_infer.proofs.Outcomes.{counted}
-use Rattle.call_infer.proofs.store_counts.Statement.{statement}
-use Rattle.call_infer.proofs.store_counts.Tie as tie
+use Rattle.line_counts.proofs.Counting.{counted}
+use Rattle.line_counts.proofs.store_counts.Statement.{statement}
+use Rattle.line_counts.proofs.store_counts.Tie as tie
 
 sub-count-sets : tie.Need-sub-count-sets
 sub-count-sets c = search needs

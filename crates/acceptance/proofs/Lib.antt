@@ -1,2 +1,0 @@
--- The contract of `accept`, from those of load and judge.
-pub mod Accepting

@@ -1,0 +1,2 @@
+-- What load and judge promise, put together.
+pub mod Accepting

@@ -1,0 +1,2 @@
+-- Laws of the counts of a store.
+pub mod Counting
