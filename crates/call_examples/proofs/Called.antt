@@ -13,7 +13,7 @@ use Rattle.calls.specs.Answers.{Answer, turnedBack, answered}
 use Rattle.calls.specs.Judging
 use Rattle.calls.specs.Calls
 use Rattle.report.specs.Report
-use Rattle.examples.proofs.Marked.{file, linesA, variant, tried}
+use Rattle.example_files.proofs.Files.{file, linesA, variant, tried}
 
 -- what a verdict says, as document 01 numbers it: number and line, or the words as 0 and 1
 words : VerdictAnswer → Answer

@@ -1,0 +1,2 @@
+-- The files of the examples.
+pub mod Files
