@@ -7,10 +7,10 @@ use mathlib.Core.Bool.{Bool, true, false, _&&_, _||_, So, false≢true}
 use mathlib.Core.Path.{_≡_, refl, sym, ap, _∙_, subst, fun-ext}
 use lib.ListN.{length, set, length-set}
 use lib.Seq.{getD-set-same, getD-set-other}
-use borrow.Author.Tests.{ne-eqb}
+use borrow.Author.Tests.{ne-eqb, lt-ltb, ltb-true}
 use Rattle.program.specs.Test.{_⇒_, all}
 use Rattle.program.specs.Program.{Program}
-use Rattle.program.specs.Flow.{Abstract, row, Table, lies}
+use Rattle.program.specs.Flow.{Abstract, row, Set, Table, lies}
 use Rattle.program.proofs.Test.{and-left, and-right, and-intro, implies-elim, or-neither}
 use Rattle.format.specs.Limits.{rowLimit}
 use Rattle.format.specs.Text.{Bytes, byteAt}
@@ -22,8 +22,8 @@ use Rattle.inference.proofs.Tables.{abstract-member}
 use Rattle.store.specs.Rows.{storeRow, storeProgram, cellsAt}
 use Rattle.store.proofs.Laws.{row-cells}
 use Rattle.tables.specs.Tables.{storeFlow, storeComm}
-use Rattle.sets.specs.Sets.{liesBelow}
-use Rattle.sets.proofs.Members.{lies-at}
+use Rattle.sets.specs.Sets.{liesBelow, setOf}
+use Rattle.sets.proofs.Members.{lies-at, set-full}
 use Rattle.set_adds.specs.declared.Variable.{Variable}
 use Rattle.set_adds.specs.Adding.{setAt, positionOf, numberOf, joined, Flags, Inside, Rule, Adds, Copied, Joined}
 use Rattle.set_adds.proofs.Variables.{Has, has-iff, apart, behind-rows, before-claims, inside-iff, lies-below-iff}
@@ -46,10 +46,13 @@ unfolding joined
 joined-same zero other e h = absurd (omega arith)
 joined-same (suc own) other e h = omega arith
 
-module _ (rows : ℕ) (from to : Variable) (part s s′ : Bytes) (more : Bool) (few : rows ≤ rowLimit) (low-from : numberOf from < rowLimit) (low-to : numberOf to < rowLimit)
-    (copied : Copied (positionOf from) (rows + 1) s part) (j : Joined (positionOf to) (rows + 1) part s s′ more) where
-  -- a byte of a set that is there afterwards was there, or is a member of the other set
-  joined-has : (p : Variable) (a : Abstract) → Has s′ p a → (Has s p a → ⊥) → (p ≡ to) × (member a < rows + 1) × Has s from a
+-- the bytes of a set that tables with the sets of the store have
+module _ (rows : ℕ) (source : Table → Table → Set) (to : Variable) (part s s′ : Bytes) (more : Bool) (few : rows ≤ rowLimit) (low-to : numberOf to < rowLimit)
+    (told : (flow comm : Table) → Inside flow comm s → (a : Abstract) → member a < rows + 1 → 0 < byteAt part (member a) → So (source flow comm a))
+    (whole : (a : Abstract) → member a < rows + 1 → So (source (storeFlow s) (storeComm s) a) → 0 < byteAt part (member a)) (low : Flags s → (i : ℕ) → i < rows + 1 → byteAt part i < 2)
+    (j : Joined (positionOf to) (rows + 1) part s s′ more) where
+  -- a member that is there afterwards was there, or is one of the other set
+  joined-has : (p : Variable) (a : Abstract) → Has s′ p a → (Has s p a → ⊥) → (p ≡ to) × (member a < rows + 1) × (0 < byteAt part (member a))
   joined-has p a h new =
       elim (decLt (positionOf p + member a) (positionOf to)) [
         | yes l ↦ absurd (new (record { low = h .low; few = h .few; byte = rw (j .before (positionOf p + member a) l) at (h .byte) }))
@@ -64,8 +67,7 @@ module _ (rows : ℕ) (from to : Variable) (part s s′ : Bytes) (more : Bool) (
                 | yes y ↦ y
                 | no n ↦ absurd (new (record { low = h .low; few = h .few; byte = rw e (omega arith) }))
               ] in
-              let c : 0 < byteAt s (positionOf from + i) = rw (copied .bytes i (omega arith)) at (joined-cases (byteAt s (positionOf to + i)) (byteAt part i) b z) in
-              (q, omega arith, record { low = low-from; few = h .few; byte = rw m c })
+              (q, omega arith, rw m (joined-cases (byteAt s (positionOf to + i)) (byteAt part i) b z))
         ]
       ]
 
@@ -77,22 +79,20 @@ module _ (rows : ℕ) (from to : Variable) (part s s′ : Bytes) (more : Bool) (
       go true e = yes (has-iff s p a .0 e)
       go false e = no (λ h. false≢true (sym e ∙ has-iff s p a .1 h))
 
-  joined-inside : (flow comm : Table) → So (liesBelow rows (setAt from flow comm) (setAt to flow comm)) → Inside flow comm s → Inside flow comm s′
+  joined-inside : (flow comm : Table) → So (liesBelow rows (source flow comm) (setAt to flow comm)) → Inside flow comm s → Inside flow comm s′
   joined-inside flow comm t h =
       let old = inside-iff flow comm s .0 h in
       inside-iff flow comm s′ .1 λ p a k.
       elim (has? p a) [
         | yes y ↦ old p a y
-        | no n ↦ (let (q, l, f) = joined-has p a k n in rw q (lies-below-iff rows (setAt from flow comm) (setAt to flow comm) .0 t a l (old from a f)))
+        | no n ↦ (let (q, l, b) = joined-has p a k n in rw q (lies-below-iff rows (source flow comm) (setAt to flow comm) .0 t a l (told flow comm h a l b)))
       ]
 
-  joined-kept : more ≡ false → So (liesBelow rows (setAt from (storeFlow s) (storeComm s)) (setAt to (storeFlow s) (storeComm s)))
+  joined-kept : more ≡ false → So (liesBelow rows (source (storeFlow s) (storeComm s)) (setAt to (storeFlow s) (storeComm s)))
   joined-kept e = lies-below-iff rows _ _ .1 λ a l t.
-      let f = has-iff s from a .0 t in
-      let b : 0 < byteAt part (member a) = rw (copied .bytes (member a) l) (f .byte) in
       let same : byteAt s (positionOf to + member a) ≡ joined (byteAt s (positionOf to + member a)) (byteAt part (member a)) =
       ap (λ (x : Bytes). byteAt x (positionOf to + member a)) (sym (j .still e)) ∙ j .joins (member a) l in
-      has-iff s to a .1 (record { low = low-to; few = f .few; byte = joined-same _ (byteAt part (member a)) same b })
+      has-iff s to a .1 (record { low = low-to; few = omega arith; byte = joined-same _ (byteAt part (member a)) same (whole a l t) })
 
   joined-flags : Flags s → Flags s′
   unfolding Flags
@@ -104,15 +104,12 @@ module _ (rows : ℕ) (from to : Variable) (part s s′ : Bytes) (more : Bool) (
           | yes b ↦
               let i = q - positionOf to in
               let e : q ≡ positionOf to + i = omega arith in
-              let v = before-claims from low-from in
-              let w = behind-rows from in
               let x : byteAt s (positionOf to + i) < 2 = rw e at (h q l k) in
-              let y : byteAt part i < 2 = rw (copied .bytes i (omega arith)) (h (positionOf from + i) (omega arith) (omega arith)) in
-              rw (e, j .joins i (omega arith)) (joined-low (byteAt s (positionOf to + i)) (byteAt part i) x y)
+              rw (e, j .joins i (omega arith)) (joined-low (byteAt s (positionOf to + i)) (byteAt part i) x (low h i (omega arith)))
         ]
       ]
 
-  joined-below : Adds (λ flow comm. liesBelow rows (setAt from flow comm) (setAt to flow comm)) s s′ more
+  joined-below : Adds (λ flow comm. liesBelow rows (source flow comm) (setAt to flow comm)) s s′ more
   joined-below = record {
     size = j .size;
     rows = λ q l. j .before q (omega (arith, behind-rows to));
@@ -125,8 +122,26 @@ module _ (rows : ℕ) (from to : Variable) (part s s′ : Bytes) (more : Bool) (
     kept = joined-kept;
   }
 
-  pub joined-adds : Adds (λ flow comm. lies (storeProgram rows s) (setAt from flow comm) (setAt to flow comm)) s s′ more
-  joined-adds = subst (λ rule. Adds rule s s′ more) (fun-ext λ flow. fun-ext λ comm. lies-at rows s (setAt from flow comm) (setAt to flow comm)) joined-below
+  joined-lies : Adds (λ flow comm. lies (storeProgram rows s) (source flow comm) (setAt to flow comm)) s s′ more
+  joined-lies = subst (λ rule. Adds rule s s′ more) (fun-ext λ flow. fun-ext λ comm. lies-at rows s (source flow comm) (setAt to flow comm)) joined-below
+
+-- a copy of another set of the store
+pub joined-adds : (rows : ℕ) (from to : Variable) (part s s′ : Bytes) (more : Bool) → rows ≤ rowLimit → numberOf from < rowLimit → numberOf to < rowLimit
+    → Copied (positionOf from) (rows + 1) s part → Joined (positionOf to) (rows + 1) part s s′ more
+    → Adds (λ flow comm. lies (storeProgram rows s) (setAt from flow comm) (setAt to flow comm)) s s′ more
+unfolding Flags
+joined-adds rows from to part s s′ more few low-from low-to copied j =
+    joined-lies rows (setAt from) to part s s′ more few low-to
+    (λ flow comm h a l b. inside-iff flow comm s .0 h from a (record { low = low-from; few = omega arith; byte = rw (copied .bytes (member a) l) at b }))
+    (λ a l t. rw (copied .bytes (member a) l) (has-iff s from a .0 t .byte))
+    (λ h i l. rw (copied .bytes i l) (h (positionOf from + i) (omega (arith, behind-rows from)) (omega (arith, before-claims from low-from)))) j
+
+-- a set that is the same for all tables
+pub set-adds : (rows : ℕ) (to : Variable) (part s s′ : Bytes) (more : Bool) → rows ≤ rowLimit → numberOf to < rowLimit → memberLimit ≤ length part → ((i : ℕ) → byteAt part i < 2)
+    → Joined (positionOf to) (rows + 1) part s s′ more → Adds (λ flow comm. lies (storeProgram rows s) (setOf part) (setAt to flow comm)) s s′ more
+set-adds rows to part s s′ more few low-to size low j =
+    joined-lies rows (λ flow comm. setOf part) to part s s′ more few low-to (λ flow comm h a l b. rw (set-full part size) (lt-ltb 0 _ b)) (λ a l t. ltb-true 0 _ (rw (set-full part size) at t))
+    (λ h i l. low i) j
 
 -- ---- a member put into the set of a name
 
@@ -233,10 +248,10 @@ module _ (rule first second : Rule) (there : (flow comm : Table) → So (rule fl
 pub adds-then : {first second : Rule} {s₀ s₁ s₂ : Bytes} {a b : Bool} → Adds first s₀ s₁ a → Adds second s₁ s₂ b → Adds (λ flow comm. first flow comm && second flow comm) s₀ s₂ (a || b)
 adds-then {first} {second} h k = adds-both _ first second (λ flow comm t. (and-left _ _ t, and-right (first flow comm) _ t)) (λ flow comm t i. and-intro t i) h k
 
--- a rule for what is in a set
-pub adds-member : {rule : Rule} {s s′ : Bytes} {more : Bool} (n k : ℕ) → storeFlow s n (row k) ≡ true → Adds rule s s′ more → Adds (λ flow comm. flow n (row k) ⇒ rule flow comm) s s′ more
-unfolding Inside
-adds-member {rule} n k t h = record {
+-- a rule that tables with the sets of the store have if they have another, and that holds of the store if the other does
+pub adds-told : {rule rule′ : Rule} {s s′ : Bytes} {more : Bool} → ((flow comm : Table) → So (rule′ flow comm) → Inside flow comm s → So (rule flow comm))
+    → (So (rule (storeFlow s) (storeComm s)) → So (rule′ (storeFlow s) (storeComm s))) → Adds rule s s′ more → Adds rule′ s s′ more
+adds-told told back h = record {
   size = h .size;
   rows = h .rows;
   rest = h .rest;
@@ -244,9 +259,14 @@ adds-member {rule} n k t h = record {
   fewer = h .fewer;
   really = h .really;
   still = h .still;
-  inside = λ flow comm r i. h .inside flow comm (implies-elim (rule flow comm) r (i .0 n (row k) t)) i;
-  kept = λ e. rw t (h .kept e);
+  inside = λ flow comm r i. h .inside flow comm (told flow comm r i) i;
+  kept = λ e. back (h .kept e);
 }
+
+-- a rule for what is in a set
+pub adds-member : {rule : Rule} {s s′ : Bytes} {more : Bool} (n k : ℕ) → storeFlow s n (row k) ≡ true → Adds rule s s′ more → Adds (λ flow comm. flow n (row k) ⇒ rule flow comm) s s′ more
+unfolding Inside
+adds-member {rule} n k t h = adds-told (λ flow comm r i. implies-elim (rule flow comm) r (i .0 n (row k) t)) (λ r. rw t r) h
 
 pub adds-other : (rule : Rule) (s : Bytes) (n k : ℕ) → storeFlow s n (row k) ≡ false → Adds (λ flow comm. flow n (row k) ⇒ rule flow comm) s s false
 adds-other rule s n k t = record {

@@ -4,13 +4,15 @@ use sets::unless_in;
 use store::Store;
 ghost use mathlib.Core.Bool.{_||_};
 ghost use mathlib.Core.Path.{_≡_};
-ghost use Prim.Native.Nat.{_+_, _<_, _≤_};
+ghost use Prim.Native.Nat.{ℕ, _+_, _<_, _≤_};
 ghost use lib.ListN.{length};
 ghost use Rattle.format.specs.Limits.{rowLimit};
+ghost use Rattle.format.specs.Text.{byteAt};
 ghost use Rattle.calls.specs.Layout.{memberLimit, storeSize};
 ghost use Rattle.inference.specs.Inference.{abstractOf};
 ghost use Rattle.program.specs.Flow.{lies};
 ghost use Rattle.store.specs.Rows.{storeProgram};
+ghost use Rattle.sets.specs.Sets.{setOf};
 ghost use Rattle.set_adds.specs.Adding.{setAt, positionOf, numberOf, joined, Copied, Joined, Adds};
 
 // The set of a name or of a channel row.
@@ -87,6 +89,15 @@ pub fn add_set(store: &mut [u8], rows: u8, from: Variable, to: Variable) -> bool
     let members = rows as usize + 1;
     let set = copy_set(store, position(from), members);
     join_set(store, position(to), members, &set)
+}
+
+// Adds the members of a set of bytes to the set of a name, as far as the program's rows go.
+pub fn add_members(store: &mut [u8], rows: u8, n: u8, set: &[u8]) -> bool
+    requires { ⌜ (storeSize ≤ length (now store)) × (rows ≤ rowLimit) × (n < rowLimit) ⌝ }
+    requires { ⌜ (memberLimit ≤ length (now set)) × ((i : ℕ) → byteAt (now set) i < 2) ⌝ }
+    ensures { λ more. ⌜ (let bytes = now (store .entry) in Adds (λ flow comm. lies (storeProgram rows bytes) (setOf (now (set .entry))) (flow n)) bytes (now (store .exit)) more) ⌝ }
+{
+    join_set(store, position(Variable::Name(n)), rows as usize + 1, set)
 }
 
 // Puts a member into the set of a name.

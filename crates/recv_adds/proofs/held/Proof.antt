@@ -1,0 +1,54 @@
+-- `held` meets its contract. The loop's invariant: what the rows below k have is gathered. The measure is the number of rows left.
+use Prim.Native.Nat.{_≤_, _-_}
+use native.Mathlib.Omega.{arith}
+use mathlib.Core.Path.{_≡_, sym}
+use borrow.Author.Needs.{needs}
+use Rattle.store.specs.Rows.{storeProgram}
+use Rattle.tables.specs.Tables.{storeComm}
+use Rattle.sets.specs.Sets.{setOf}
+use Rattle.recv_adds.specs.Received.{Gathered, gives}
+use Rattle.recv_adds.proofs.Gathering.{gathered-none, gathered-more}
+use Rattle.recv_adds.proofs.held.Statement.{statement}
+use Rattle.recv_adds.proofs.held.Tie as tie
+
+abbrev Inv-loop : tie.InvT-loop
+Inv-loop store rows channels set₀ k₀ set k =
+    (k ≤ rows) × Gathered k (gives (storeProgram rows store) (storeComm store) (setOf channels)) set
+
+abbrev μ-loop : tie.MeasureT-loop
+μ-loop store rows channels set₀ k₀ set k = rows - k
+
+loop-holds : tie.Need-loop-holds Inv-loop μ-loop
+loop-holds c = (omega arith, gathered-none _)
+
+slice-aggregate-give-row : tie.Need-slice-aggregate-give-row Inv-loop μ-loop
+slice-aggregate-give-row c = sym (c .before .before .loop .inv .1 .size)
+
+give-row-requires : tie.Need-give-row-requires Inv-loop μ-loop
+give-row-requires c κs = search needs
+
+add-k : tie.Need-add-k Inv-loop μ-loop
+add-k c = search needs
+
+loop-less : tie.Need-loop-less Inv-loop μ-loop
+loop-less c = search needs
+
+loop-again : tie.Need-loop-again Inv-loop μ-loop
+loop-again c = (omega arith, gathered-more (c .before .before .before .before .loop .inv .1) (c .before .give-row .ensures))
+
+returns : tie.Need-returns Inv-loop μ-loop
+returns c = let q : c .before .loop .k ≡ c .before .before .before .before .args .rows = omega arith in rw q at (c .before .loop .inv .1)
+
+pub held-spec : {M : Type 1} → statement M
+held-spec =
+    tie.close
+    (tie.spec
+    Inv-loop
+    μ-loop
+    loop-holds
+    slice-aggregate-give-row
+    give-row-requires
+    add-k
+    loop-less
+    loop-again
+    returns)

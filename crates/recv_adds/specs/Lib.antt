@@ -1,0 +1,2 @@
+-- What a sync may receive.
+pub mod Received
