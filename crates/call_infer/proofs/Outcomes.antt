@@ -24,7 +24,7 @@ use Rattle.store.proofs.Laws.{program-length}
 use Rattle.opening.specs.declared.Opened.{Opened}
 use Rattle.opening.specs.Opening.{OpenedIs}
 use Rattle.opening.proofs.Opening.{refused-is, opens-is}
-use Rattle.sync_adds.specs.Syncs.{Ready}
+use Rattle.send_adds.specs.Sends.{Ready}
 use Rattle.smallest.specs.Smallest.{Least}
 use Rattle.call_infer.proofs.Stores as stores
 use Rattle.line_counts.specs.Counting.{storeCounts}

@@ -42,7 +42,7 @@ use Rattle.store.specs.Rows.{storeRow, storeProgram}
 use Rattle.tables.specs.Tables.{flagAt, flowFlag, commFlag, storeFlow, storeComm}
 use Rattle.forms.specs.Forms.{formIn}
 use Rattle.set_adds.specs.Adding.{Flags}
-use Rattle.sync_adds.specs.Syncs.{Ready}
+use Rattle.send_adds.specs.Sends.{Ready}
 use Rattle.smallest.specs.Smallest.{Least}
 use Rattle.set_adds.proofs.Adding.{rows-same}
 

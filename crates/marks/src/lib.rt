@@ -8,16 +8,13 @@ pub const NONE: u8 = 255;
 
 pub const COMMS: u8 = Store::ROWS as u8;
 // A mark for each name's set, and one for those of the channels; for each member of a set; for each send; for each row and each row in its set.
-// Then, for each receive, a set of what its channels hold.
 pub const MEMBERS: usize = Store::ROWS + 1;
 
 pub const SENDS: usize = MEMBERS + Store::MEMBERS;
 
 pub const SEEN: usize = SENDS + Store::ROWS;
 
-pub const GIVEN: usize = SEEN + Store::ROWS * Store::ROWS;
-
-pub const SIZE: usize = GIVEN + Store::ROWS * Store::MEMBERS;
+pub const SIZE: usize = SEEN + Store::ROWS * Store::ROWS;
 // The names whose sets make up what a value row stands for, at most two for each.
 pub const PARTS: usize = 2 * Store::ROWS;
 
@@ -212,97 +209,12 @@ pub fn asks_some(store: &[u8], marks: &[u8], r: u8) -> bool {
     has_marked(store, marks, watched)
 }
 
-// Joins the set of channel row c to what receive row k is given.
-fn join_given(store: &[u8], marks: &mut [u8], k: u8, c: u8) {
-    let from = Store::COMMS + c as usize * Store::MEMBERS;
-    let to = GIVEN + k as usize * Store::MEMBERS;
-    if store.len() < from + Store::MEMBERS {
-        return;
-    }
-    if marks.len() < to + Store::MEMBERS {
-        return;
-    }
-    let mut i = 0;
-    while i < Store::MEMBERS {
-        let at = from + i;
-        let new = store[at];
-        let place = to + i;
-        let old = marks[place];
-        marks[place] = byte_order::larger(old, new);
-        i += 1;
-    }
-}
-
-// The same, if row c is in the set of a name.
-fn hear_channel(store: &[u8], marks: &mut [u8], k: u8, name: u8, c: u8) {
-    let member = c as usize + 1;
-    if byte_at(
-        store,
-        Store::FLOWS + name as usize * Store::MEMBERS + member,
-    )
-        == 0
-    {
-        return;
-    }
-    join_given(store, marks, k, c);
-}
-
-// What receive row k is given by its channels.
-fn hear_row(store: &[u8], rows: u8, marks: &mut [u8], k: u8) {
-    if cell(store, k, 0) != RECV {
-        return;
-    }
-    let name = cell(store, k, 3);
-    let mut c = 0;
-    while c < rows {
-        hear_channel(store, marks, k, name, c);
-        c += 1;
-    }
-}
-
-// What each receive row is given.
-pub fn hear(store: &[u8], rows: u8, marks: &mut [u8]) {
-    let mut k = 0;
-    while k < rows {
-        hear_row(store, rows, marks, k);
-        k += 1;
-    }
-}
-
-// Whether receive row k is given what is not in the set of name n. Every member is looked at, so that the loop has no way out but its end.
-fn gives_more(store: &[u8], marks: &[u8], n: u8, k: u8) -> bool {
-    let to = Store::FLOWS + n as usize * Store::MEMBERS;
-    let from = GIVEN + k as usize * Store::MEMBERS;
-    if store.len() < to + Store::MEMBERS {
-        return true;
-    }
-    if marks.len() < from + Store::MEMBERS {
-        return true;
-    }
-    let mut found = 0;
-    let mut i = 0;
-    while i < Store::MEMBERS {
-        let at = to + i;
-        let place = from + i;
-        let new = sets::unless_in(marks[place], store[at]);
-        found = byte_order::larger(found, new);
-        i += 1;
-    }
-    0 < found
-}
-
-// Whether a sync at row r is given nothing new by the receive row k.
-fn heard(store: &[u8], marks: &[u8], r: u8, k: u8) -> bool {
+// Whether row r is a sync and row k a receive: a sync has all its receives together.
+fn received(store: &[u8], r: u8, k: u8) -> bool {
     if cell(store, r, 0) != SYNC {
         return false;
     }
-    if cell(store, k, 0) != RECV {
-        return false;
-    }
-    if gives_more(store, marks, cell(store, r, 1), k) {
-        return false;
-    }
-    true
+    cell(store, k, 0) == RECV
 }
 
 // Whether a sync at row r needs nothing of the send row k: another sync had it, and unit is in its set.
@@ -330,7 +242,7 @@ pub fn asks_member(store: &[u8], marks: &[u8], r: u8, all: bool, k: u8) -> bool 
     if sent(store, marks, r, k) {
         return false;
     }
-    if heard(store, marks, r, k) {
+    if received(store, r, k) {
         return false;
     }
     if all {

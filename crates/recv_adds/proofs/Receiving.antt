@@ -9,15 +9,15 @@ use mathlib.Core.Path.{_≡_, refl, sym, _∙_, subst}
 use lib.Dec.{ltb}
 use lib.ListN.{length}
 use Rattle.program.specs.declared.Form.{Form}
-use Rattle.program.specs.declared.Form.the-variants.{Chan, Recv}
+use Rattle.program.specs.declared.Form.the-variants.{Chan, Recv, Sync}
 use Rattle.program.specs.Maybe.{when, has}
 use Rattle.program.specs.Test.{any}
 use Rattle.program.specs.Program.{Program, rowAt, recvOf, isChan, chanAt, chanRow, recvAt}
-use Rattle.program.specs.Flow.{Abstract, row, Set, Table, lies, forEach, forEachChan}
+use Rattle.program.specs.Flow.{Abstract, row, Set, Table, lies, forEach, forEachChan, sendRule, recvRule, keepsForm}
 use Rattle.program.specs.FlowRule.{ForEach, ForEachChan, Lies}
 use Rattle.program.proofs.FlowRule.{each-iff, lies-iff, when-iff}
 use Rattle.program.proofs.Maybe.{has-elim, has-intro}
-use Rattle.program.proofs.Test.{and-left, and-right, and-intro, any-elim, any-intro}
+use Rattle.program.proofs.Test.{and-left, and-right, and-intro, any-elim, any-intro, all-same}
 use Rattle.format.specs.Limits.{rowLimit}
 use Rattle.format.specs.Text.{Bytes, byteAt}
 use Rattle.format.specs.Document.{member}
@@ -28,6 +28,7 @@ use Rattle.tables.specs.Tables.{storeFlow, storeComm}
 use Rattle.forms.specs.Forms.{formIn}
 use Rattle.forms.proofs.Forms.{recv-at, chan-row}
 use Rattle.sets.specs.Sets.{setOf, liesBelow}
+use Rattle.sets.proofs.Tests.{implies-and, all-and}
 use Rattle.sets.proofs.Members.{lies-at, set-full}
 use Rattle.set_adds.specs.Adding.{Inside, Adds}
 use Rattle.set_adds.proofs.Adding.{adds-told}
@@ -67,7 +68,13 @@ pub among : (s : Bytes) (k : ℕ) → memberLimit ≤ length s → setOf s (row 
 unfolding member
 among s k l = rw (set-full s l, add-one)
 
--- ---- the rule as a proposition
+-- ---- the rule of a sync: its sends, and its receives
+
+pub sync-parts : (p : Program) (flow comm : Table) (r n e : ℕ) → keepsForm p flow comm r n (Sync e) ≡ forEach p (flow e) (sendRule p flow comm r n) && recvsRule p n e flow comm
+unfolding keepsForm recvRule recvsRule forEach
+sync-parts p flow comm r n e = all-same (length p) _ _ (λ i l. implies-and (flow e (row i)) _ _) ∙ all-and (length p) _ _
+
+-- ---- the receives' part as a proposition
 
 recvs-iff : (p : Program) (n e : ℕ) (flow comm : Table)
     → So (recvsRule p n e flow comm) ↔ ForEach p (flow e) (λ s. (c : ℕ) → recvAt p s ≡ some c → ForEachChan p (flow c) λ k. Lies p (comm k) (flow n))

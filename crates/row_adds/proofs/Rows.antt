@@ -1,17 +1,17 @@
 -- The rule of a row, as changes of a store meet it.
-use Prim.Native.Nat.{ℕ, _+_, _<_}
+use Prim.Native.Nat.{ℕ, _+_, _<_, _≤_}
 use native.Mathlib.Numerals.{add-one}
-use mathlib.Core.Bool.{Bool, false}
+use mathlib.Core.Bool.{Bool, false, _||_}
 use mathlib.Core.List.{[], _∷_}
 use mathlib.Core.Path.{_≡_, sym, _∙_}
 use Rattle.program.specs.declared.Row.{Row}
 use Rattle.program.specs.declared.Bind.{Bind}
 use Rattle.program.specs.declared.Form.{Form}
-use Rattle.program.specs.declared.Form.the-variants.{Fun, Case, Apply}
+use Rattle.program.specs.declared.Form.the-variants.{Fun, Sync, Case, Apply}
 use Rattle.program.specs.Each.{Each, _&_}
 use Rattle.program.specs.Maybe.{when}
 use Rattle.program.specs.Program.{Program, rowAt, bindOf, bindAt, nameOf}
-use Rattle.program.specs.Flow.{row, keepsForm, keepsAt}
+use Rattle.program.specs.Flow.{row, forEach, sendRule, keepsForm, keepsAt}
 use Rattle.format.specs.Limits.{rowLimit}
 use Rattle.format.specs.Text.{Bytes}
 use Rattle.format.specs.Print.{formNumbers}
@@ -19,9 +19,13 @@ use Rattle.inference.specs.Inference.{abstractOf}
 use Rattle.store.specs.Rows.{storeProgram}
 use Rattle.forms.specs.Forms.{formIn}
 use Rattle.set_adds.specs.Adding.{Adds}
-use Rattle.set_adds.proofs.Adding.{adds-none, adds-as}
-use Rattle.sync_adds.specs.Syncs.{Ready}
-use Rattle.sync_adds.proofs.Syncing.{Low, first-low, second-low}
+use Rattle.set_adds.proofs.Adding.{adds-none, adds-as, adds-after}
+use Rattle.recv_adds.specs.Received.{recvsRule}
+use Rattle.recv_adds.proofs.Receiving.{sync-parts}
+use Rattle.send_adds.specs.Sends.{Ready, sentRule, sendRowRule}
+use Rattle.send_adds.proofs.Sending.{Low, first-low, second-low}
+use Rattle.rule_adds.specs.declared.Ask.{Ask}
+use Rattle.rule_adds.specs.Rules.{askRule}
 
 -- ---- the form of a row
 
@@ -58,3 +62,11 @@ pub bind-keeps : (p : Program) (r : ℕ) {x : Row} {b : Bind} {s s′ : Bytes} {
     → Adds (λ flow comm. keepsForm p flow comm r (b .name) (b .form)) s s′ more → Adds (λ flow comm. keepsAt p flow comm r) s s′ more
 unfolding keepsAt bindAt bindOf when
 bind-keeps p r e q h = adds-as _ _ (λ flow comm. rw (sym e ∙ q)) h
+
+-- ---- a sync: what it sends, and then what it receives
+
+pub sync-both : (rows r n e : ℕ) {s₀ s₁ s₂ : Bytes} {a b : Bool} → rows ≤ rowLimit
+    → Adds (λ flow comm. forEach (storeProgram rows s₀) (flow e) (λ k. askRule (storeProgram rows s₀) n Ask.Send k flow comm)) s₀ s₁ a → Adds (recvsRule (storeProgram rows s₁) n e) s₁ s₂ b
+    → Adds (λ flow comm. keepsForm (storeProgram rows s₀) flow comm r n (Sync e)) s₀ s₂ (a || b)
+unfolding sendRule askRule sendRowRule sentRule
+sync-both rows r n e {s₀} few h k = adds-as _ _ (λ flow comm. sym (sync-parts (storeProgram rows s₀) flow comm r n e)) (adds-after rows (λ p. recvsRule p n e) few h k)

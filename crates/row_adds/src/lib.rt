@@ -2,6 +2,7 @@
 use forms::row_in;
 use program::Form;
 use program::Row;
+use recv_adds::recvs_add;
 use rule_adds::Ask;
 use rule_adds::each_adds;
 use set_adds::either;
@@ -14,7 +15,7 @@ ghost use Rattle.format.specs.Print.{formNumbers};
 ghost use Rattle.store.specs.Rows.{storeProgram};
 ghost use Rattle.asks.specs.Asks.{Names};
 ghost use Rattle.set_adds.specs.Adding.{Adds};
-ghost use Rattle.sync_adds.specs.Syncs.{Ready};
+ghost use Rattle.send_adds.specs.Sends.{Ready};
 
 // Adds what the rule of a form at row r asks, where its bind has the name n. The last arm is that of the value rows other than fun.
 fn form_adds(store: &mut [u8], rows: u8, r: u8, n: u8, form: Form, names: &[u8]) -> bool
@@ -36,7 +37,11 @@ fn form_adds(store: &mut [u8], rows: u8, r: u8, n: u8, form: Form, names: &[u8])
             either(value, inner)
         }
         Form::Spawn { child: _ } => put_member(store, n, 0),
-        Form::Sync { event } => each_adds(store, rows, n, Ask::Sync, names, event),
+        Form::Sync { event } => {
+            let sent = each_adds(store, rows, n, Ask::Send, names, event);
+            let received = recvs_add(store, rows, n, event);
+            either(sent, received)
+        }
         Form::First { pair } => each_adds(store, rows, n, Ask::First, names, pair),
         Form::Second { pair } => each_adds(store, rows, n, Ask::Second, names, pair),
         Form::Case {

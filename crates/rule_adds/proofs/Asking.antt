@@ -21,8 +21,8 @@ use Rattle.rule_adds.specs.declared.Ask.{Ask}
 use Rattle.set_adds.specs.Adding.{Adds}
 use Rattle.rule_adds.specs.Rules.{askRule, memberRule}
 use Rattle.set_adds.proofs.Adding.{adds-as}
-use Rattle.sync_adds.specs.Syncs.{Ready}
-use Rattle.sync_adds.proofs.Syncing.{first-low, second-low, numbers-low}
+use Rattle.send_adds.specs.Sends.{Ready}
+use Rattle.send_adds.proofs.Sending.{first-low, second-low, numbers-low}
 
 -- ---- all rows
 

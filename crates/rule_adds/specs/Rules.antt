@@ -8,12 +8,12 @@ use Rattle.program.specs.Flow.{row, lies}
 use Rattle.format.specs.Limits.{rowLimit}
 use Rattle.rule_adds.specs.declared.Ask.{Ask}
 use Rattle.set_adds.specs.Adding.{Rule}
-use Rattle.sync_adds.specs.Syncs.{syncRule}
+use Rattle.send_adds.specs.Sends.{sendRowRule}
 
 module _ (p : Program) (n : ℕ) where
   -- what a form asks of row k in its set
   unfoldable pub askRule : Ask → ℕ → Rule
-  askRule Ask.Sync k flow comm = syncRule p n k flow comm
+  askRule Ask.Send k flow comm = sendRowRule p n k flow comm
   askRule Ask.First k flow comm = when (pairAt p k) λ (x, y). lies p (flow x) (flow n)
   askRule Ask.Second k flow comm = when (pairAt p k) λ (x, y). lies p (flow y) (flow n)
   askRule (Ask.Case x l y r) k flow comm =
@@ -27,7 +27,7 @@ module _ (p : Program) (n : ℕ) where
 
 -- the names that an ask holds are below the limit
 unfoldable pub AskLow : Ask → Type 0
-AskLow Ask.Sync = Unit {0}
+AskLow Ask.Send = Unit {0}
 AskLow Ask.First = Unit {0}
 AskLow Ask.Second = Unit {0}
 AskLow (Ask.Case x l y r) = (x < rowLimit) × (l < rowLimit) × (y < rowLimit) × (r < rowLimit)

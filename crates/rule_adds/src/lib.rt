@@ -1,10 +1,10 @@
 // The rule of a form: what it asks of each row in its set is added.
 use forms::form_at;
 use program::Form;
+use send_adds::send_adds;
 use set_adds::Variable;
 use set_adds::add_set;
 use set_adds::either;
-use sync_adds::sync_adds;
 use tables::flow_has;
 ghost use mathlib.Core.Bool.{_&&_};
 ghost use Prim.Native.Nat.{_<_, _≤_};
@@ -15,12 +15,12 @@ ghost use Rattle.calls.specs.Layout.{storeSize};
 ghost use Rattle.store.specs.Rows.{storeProgram};
 ghost use Rattle.asks.specs.Asks.{Names};
 ghost use Rattle.set_adds.specs.Adding.{Adds};
-ghost use Rattle.sync_adds.specs.Syncs.{Ready};
+ghost use Rattle.send_adds.specs.Sends.{Ready};
 ghost use Rattle.rule_adds.specs.Rules.{askRule, memberRule, AskLow};
 
 // What a form asks of each row in its set: its kind, and the names whose sets it compares with that of the row.
 pub enum Ask {
-    Sync,
+    Send,
     First,
     Second,
     Case {
@@ -115,7 +115,7 @@ fn asked_adds(store: &mut [u8], rows: u8, n: u8, ask: Ask, names: &[u8], k: u8) 
     ensures { λ more. ⌜ Adds (askRule (storeProgram rows (now (store .entry))) n ask k) (now (store .entry)) (now (store .exit)) more ⌝ }
 {
     match ask {
-        Ask::Sync => sync_adds(store, rows, n, k),
+        Ask::Send => send_adds(store, rows, n, k),
         Ask::First => first_adds(store, rows, n, k),
         Ask::Second => second_adds(store, rows, n, k),
         Ask::Case {

@@ -12,7 +12,7 @@ ghost use Rattle.calls.specs.Layout.{storeSize};
 ghost use Rattle.store.specs.Rows.{storeProgram};
 ghost use Rattle.asks.specs.Asks.{Names};
 ghost use Rattle.set_adds.specs.Adding.{Adds};
-ghost use Rattle.sync_adds.specs.Syncs.{Ready};
+ghost use Rattle.send_adds.specs.Sends.{Ready};
 ghost use Rattle.smallest.specs.Smallest.{Settles, Cleared, Least};
 
 // Adds what the rules ask, one row after the other.

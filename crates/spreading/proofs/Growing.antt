@@ -12,10 +12,10 @@ use Rattle.store.specs.Rows.{storeProgram}
 use Rattle.store.proofs.Laws.{program-length}
 use Rattle.set_adds.specs.Adding.{zeros, Rule, Adds}
 use Rattle.asks.specs.Asks.{Names}
-use Rattle.sync_adds.specs.Syncs.{Ready}
+use Rattle.send_adds.specs.Sends.{Ready}
 use Rattle.spreading.specs.Growing.{Resets, Grows}
 use Rattle.set_adds.proofs.Adding.{rows-same, falls-then}
-use Rattle.sync_adds.proofs.Syncing.{ready-same}
+use Rattle.send_adds.proofs.Sending.{ready-same}
 
 -- ---- the program stays
 

@@ -7,7 +7,7 @@ use set_adds::either;
 ghost use mathlib.Core.Bool.{false};
 ghost use Rattle.store.specs.Rows.{storeProgram};
 ghost use Rattle.asks.specs.Asks.{Names};
-ghost use Rattle.sync_adds.specs.Syncs.{Ready};
+ghost use Rattle.send_adds.specs.Sends.{Ready};
 ghost use Rattle.spreading.specs.Growing.{Grows};
 
 // Adds what the rules ask, from the first row to the last.
@@ -53,10 +53,8 @@ pub fn spread(store: &mut [u8], rows: u8, names: &[u8])
     marks::start(&mut notes);
     let mut more = true;
     while more {
-        marks::hear(store, rows, &mut notes);
         let down = sweep_down(store, rows, names, &parts, &mut notes);
         marks::age(&mut notes);
-        marks::hear(store, rows, &mut notes);
         let up = sweep_up(store, rows, names, &parts, &mut notes);
         marks::age(&mut notes);
         more = either(down, up);

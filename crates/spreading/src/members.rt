@@ -3,6 +3,7 @@ use forms::row_in;
 use marks::cell;
 use program::Form;
 use program::Row;
+use recv_adds::recvs_add;
 use row_adds::row_adds;
 use rule_adds::Ask;
 use rule_adds::member_adds;
@@ -10,10 +11,10 @@ use set_adds::either;
 ghost use Prim.Native.Nat.{_<_};
 ghost use Rattle.store.specs.Rows.{storeProgram};
 ghost use Rattle.asks.specs.Asks.{Names};
-ghost use Rattle.sync_adds.specs.Syncs.{Ready};
+ghost use Rattle.send_adds.specs.Sends.{Ready};
 ghost use Rattle.spreading.specs.Growing.{Grows};
 
-// Adds what the rule of row r asks of row k, if it is in its set.
+// Adds what the rule of row r asks of row k, if it is in its set. A sync's receives are had together.
 fn member_grows(store: &mut [u8], rows: u8, r: u8, names: &[u8], k: u8) -> bool
     requires { ⌜ Ready rows (now store) ⌝ }
     requires { ⌜ Names (storeProgram rows (now store)) (now names) ⌝ }
@@ -26,7 +27,7 @@ fn member_grows(store: &mut [u8], rows: u8, r: u8, names: &[u8], k: u8) -> bool
     let n = b.name;
     let form = b.form;
     match form {
-        Form::Sync { event } => member_adds(store, rows, n, Ask::Sync, names, event, k),
+        Form::Sync { event } => member_adds(store, rows, n, Ask::Send, names, event, k),
         Form::First { pair } => member_adds(store, rows, n, Ask::First, names, pair, k),
         Form::Second { pair } => member_adds(store, rows, n, Ask::Second, names, pair, k),
         Form::Case {
@@ -86,7 +87,37 @@ fn member_visit(
     false
 }
 
-// The same of each row.
+// Adds what a sync at row r asks of all receives in its set.
+fn receives_grow(store: &mut [u8], rows: u8, r: u8) -> bool
+    requires { ⌜ Ready rows (now store) ⌝ }
+    requires { ⌜ r < rows ⌝ }
+    ensures { λ more. ⌜ Grows rows (now (store .entry)) (now (store .exit)) more ⌝ }
+{
+    let Row::Bind(b) = row_in(store, rows, r) else {
+        return false;
+    };
+    let n = b.name;
+    let form = b.form;
+    let Form::Sync { event } = form else {
+        return false;
+    };
+    recvs_add(store, rows, n, event)
+}
+
+// The same, with marks.
+fn receives_visit(store: &mut [u8], rows: u8, r: u8, parts: &[u8], marks: &mut [u8]) -> bool
+    requires { ⌜ Ready rows (now store) ⌝ }
+    requires { ⌜ r < rows ⌝ }
+    ensures { λ more. ⌜ Grows rows (now (store .entry)) (now (store .exit)) more ⌝ }
+{
+    let more = receives_grow(store, rows, r);
+    if more {
+        marks::note(marks, parts, cell(store, r, 1));
+    }
+    more
+}
+
+// Adds what the rule of row r asks of the rows in its set, each apart unless there is nothing new to ask.
 fn members_visit(
     store: &mut [u8],
     rows: u8,
@@ -133,7 +164,9 @@ pub fn visit(
         return members_visit(store, rows, r, names, parts, marks, all);
     }
     if marks::asks_some(store, marks, r) {
-        return members_visit(store, rows, r, names, parts, marks, all);
+        let together = receives_visit(store, rows, r, parts, marks);
+        let apart = members_visit(store, rows, r, names, parts, marks, all);
+        return either(together, apart);
     }
     false
 }

@@ -4,14 +4,12 @@ use mathlib.Core.Path.{sym, _∙_}
 use borrow.Author.Needs.{needs}
 use Rattle.inference.specs.Inference.{abstractOf}
 use Rattle.asks.specs.Asks.{Names}
-use Rattle.program.specs.Flow.{keepsForm, sendRule, recvRule}
+use Rattle.program.specs.Flow.{keepsForm}
 use Rattle.form_rule.proofs.Values.{value-keeps}
-use Rattle.sync_adds.specs.Syncs.{endRule, syncRule}
 use Rattle.rule_adds.specs.Rules.{askRule, AskLow}
-use Rattle.set_adds.proofs.Adding.{adds-then}
-use Rattle.set_adds.proofs.Adding.{adds-as}
+use Rattle.set_adds.proofs.Adding.{adds-then, adds-as}
 use Rattle.rule_adds.proofs.Asking.{result-low}
-use Rattle.row_adds.proofs.Rows.{own-low, branches-low, argument-low, row-put}
+use Rattle.row_adds.proofs.Rows.{own-low, branches-low, argument-low, row-put, sync-both}
 use Rattle.row_adds.proofs.form_adds.Statement.{statement}
 use Rattle.row_adds.proofs.form_adds.Tie as tie
 
@@ -56,6 +54,12 @@ each-adds-requires : tie.Need-each-adds-requires
 unfolding AskLow
 each-adds-requires c κs =
     (c .before .before .before .before .before .before .pre .0, (c .before .before .before .before .before .before .pre .1 .0, (c .before .before .before .before .before .before .pre .1 .1 .1, tt)))
+
+recvs-add-requires : tie.Need-recvs-add-requires
+recvs-add-requires c κs = (record { size = omega (arith, c .before .before .before .each-adds .ensures .size, c .before .before .before .before .before .before .before .before .before .before .pre .0 .size); few = c .before .before .before .before .before .before .before .before .before .before .pre .0 .few }, c .before .before .before .before .before .before .before .before .before .before .pre .1 .1 .1)
+
+either-requires-2 : tie.Need-either-requires-2
+either-requires-2 c κs = search needs
 
 enum-known-form-3 : tie.Need-enum-known-form-3
 enum-known-form-3 c = search needs
@@ -154,8 +158,7 @@ same-length-4 : tie.Need-same-length-4
 same-length-4 c = search needs
 
 returns-4 : tie.Need-returns-4
-unfolding keepsForm sendRule recvRule askRule syncRule endRule
-returns-4 c = rw (c .before .before .before .before .before .form2 .given .1) (c .before .before .each-adds .ensures)
+returns-4 c = rw (c .before .before .before .before .before .before .before .before .before .before .form2 .given .1, c .either2 .ensures) (sync-both _ _ _ _ (c .before .before .before .before .before .before .before .before .before .before .before .before .before .before .pre .0 .few) (c .before .before .before .before .before .before .before .each-adds .ensures) (c .before .before .before .recvs-add .ensures))
 
 same-length-5 : tie.Need-same-length-5
 same-length-5 c = search needs
@@ -212,6 +215,8 @@ form-adds-spec =
     put-member-requires-4
     enum-known-form-2
     each-adds-requires
+    recvs-add-requires
+    either-requires-2
     enum-known-form-3
     each-adds-requires-2
     enum-known-form-4

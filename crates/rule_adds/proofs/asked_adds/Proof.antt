@@ -7,8 +7,8 @@ use Rattle.rule_adds.proofs.asked_adds.Tie as tie
 enum-told : tie.Need-enum-told
 enum-told c = search needs
 
-sync-adds-requires : tie.Need-sync-adds-requires
-sync-adds-requires c κs = search needs
+send-adds-requires : tie.Need-send-adds-requires
+send-adds-requires c κs = search needs
 
 enum-told-2 : tie.Need-enum-told-2
 enum-told-2 c = search needs
@@ -49,7 +49,7 @@ same-length c = search needs
 
 returns : tie.Need-returns
 unfolding askRule
-returns c = rw (c .before .before .before .before .enum-told .given .1) (c .before .before .sync-adds .ensures)
+returns c = rw (c .before .before .before .before .enum-told .given .1) (c .before .before .send-adds .ensures)
 
 same-length-2 : tie.Need-same-length-2
 same-length-2 c = search needs
@@ -80,7 +80,7 @@ asked-adds-spec =
     tie.close
     (tie.spec
     enum-told
-    sync-adds-requires
+    send-adds-requires
     enum-told-2
     first-adds-requires
     enum-told-3

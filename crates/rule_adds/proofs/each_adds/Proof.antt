@@ -9,7 +9,7 @@ use Rattle.store.specs.Rows.{storeProgram}
 use Rattle.set_adds.specs.Adding.{Adds}
 use Rattle.rule_adds.specs.Rules.{memberRule}
 use Rattle.set_adds.proofs.Adding.{program-stays, adds-first, adds-next}
-use Rattle.sync_adds.proofs.Syncing.{ready-stays}
+use Rattle.send_adds.proofs.Sending.{ready-stays}
 use Rattle.rule_adds.proofs.Asking.{each-all}
 use Rattle.rule_adds.proofs.each_adds.Statement.{statement}
 use Rattle.rule_adds.proofs.each_adds.Tie as tie

@@ -9,7 +9,7 @@ use Rattle.program.specs.Flow.{keepsAt}
 use Rattle.store.specs.Rows.{storeProgram}
 use Rattle.set_adds.specs.Adding.{Adds}
 use Rattle.set_adds.proofs.Adding.{program-stays, adds-first, adds-next}
-use Rattle.sync_adds.proofs.Syncing.{ready-stays}
+use Rattle.send_adds.proofs.Sending.{ready-stays}
 use Rattle.smallest.proofs.Rows.{rows-all}
 use Rattle.smallest.proofs.round.Statement.{statement}
 use Rattle.smallest.proofs.round.Tie as tie

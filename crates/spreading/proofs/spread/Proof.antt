@@ -1,16 +1,23 @@
 -- The loop's invariant: the sets have grown. The measure: rounds that add something leave fewer bytes that are 0, and others are the last.
+use Prim.Native.Nat.{ℕ, _+_, _*_}
 use mathlib.Core.Path.{_≡_, refl, _∙_}
 use mathlib.Core.Bool.{false}
 use lib.ListN.{length}
 use borrow.Author.Needs.{needs}
+use Rattle.format.specs.Limits.{rowLimit}
+use Rattle.calls.specs.Layout.{memberLimit}
 use Rattle.spreading.specs.Growing.{Grows}
 use Rattle.spreading.proofs.Growing.{grows-none, grows-then, grows-on, still-ready, roundsLeft, rounds-fall}
 use Rattle.spreading.proofs.spread.Statement.{statement}
 use Rattle.spreading.proofs.spread.Tie as tie
 
+-- the marks, as many as `marks` counts them
+abbrev marksSize : ℕ
+marksSize = memberLimit + memberLimit + rowLimit + rowLimit * rowLimit
+
 abbrev Inv-loop : tie.InvT-loop
 Inv-loop store₀ rows names parts notes₀ more₀ store notes more =
-    (length store ≡ length store₀) × (length notes ≡ 51842) × Grows rows store₀ store false
+    (length store ≡ length store₀) × (length notes ≡ marksSize) × Grows rows store₀ store false
 
 abbrev μ-loop : tie.MeasureT-loop
 μ-loop store₀ rows names parts notes₀ more₀ store notes more = roundsLeft store more
@@ -27,12 +34,6 @@ start-requires c κs = search needs
 loop-holds : tie.Need-loop-holds Inv-loop μ-loop
 loop-holds c = (refl, search needs, grows-none _ _)
 
-slice-aggregate-hear : tie.Need-slice-aggregate-hear Inv-loop μ-loop
-slice-aggregate-hear c = search needs
-
-hear-requires : tie.Need-hear-requires Inv-loop μ-loop
-hear-requires c κs = search needs
-
 slice-aggregate-sweep-down : tie.Need-slice-aggregate-sweep-down Inv-loop μ-loop
 slice-aggregate-sweep-down c = search needs
 
@@ -40,22 +41,13 @@ slice-aggregate-sweep-down-2 : tie.Need-slice-aggregate-sweep-down-2 Inv-loop μ
 slice-aggregate-sweep-down-2 c = search needs
 
 sweep-down-requires : tie.Need-sweep-down-requires Inv-loop μ-loop
-sweep-down-requires c κs =
-    let b = c .before .before .before .before in
-    let d = b .before .before .before .before in
-    still-ready _ _ (d .before .before .before .before .before .before .before .before .pre .0) (d .before .before .before .before .before .before .before .before .pre .1) (d .loop .inv .2)
+sweep-down-requires c κs = still-ready _ _ (c .before .before .before .before .before .before .before .before .before .before .before .before .pre .0) (c .before .before .before .before .before .before .before .before .before .before .before .before .pre .1) (c .before .before .before .before .loop .inv .2)
 
 slice-aggregate-age : tie.Need-slice-aggregate-age Inv-loop μ-loop
 slice-aggregate-age c = search needs
 
 age-requires : tie.Need-age-requires Inv-loop μ-loop
 age-requires c κs = search needs
-
-slice-aggregate-hear-2 : tie.Need-slice-aggregate-hear-2 Inv-loop μ-loop
-slice-aggregate-hear-2 c = search needs
-
-hear-requires-2 : tie.Need-hear-requires-2 Inv-loop μ-loop
-hear-requires-2 c κs = search needs
 
 slice-aggregate-sweep-up : tie.Need-slice-aggregate-sweep-up Inv-loop μ-loop
 slice-aggregate-sweep-up c = search needs
@@ -64,18 +56,7 @@ slice-aggregate-sweep-up-2 : tie.Need-slice-aggregate-sweep-up-2 Inv-loop μ-loo
 slice-aggregate-sweep-up-2 c = search needs
 
 sweep-up-requires : tie.Need-sweep-up-requires Inv-loop μ-loop
-sweep-up-requires c κs =
-    let b = c .before .before .before .before in
-    let d = b .before .before .before .before in
-    let e = d .before .before .before .before .before .before .before .before in
-    let g = e .before .before .before .before .before .before .before .before in
-    still-ready _ _
-    (g .before .before .before .before .before .before .pre .0)
-    (g .before .before .before .before .before .before .pre .1)
-    (grows-on _
-    (g .before .before .before .before .before .before .pre .0 .few)
-    (e .before .before .before .before .before .before .loop .inv .2)
-    (d .before .before .before .before .before .sweep-down .ensures))
+sweep-up-requires c κs = still-ready _ _ (c .before .before .before .before .before .before .before .before .before .before .before .before .before .before .before .before .before .before .before .before .before .before .pre .0) (c .before .before .before .before .before .before .before .before .before .before .before .before .before .before .before .before .before .before .before .before .before .before .pre .1) (grows-on _ (c .before .before .before .before .before .before .before .before .before .before .before .before .before .before .before .before .before .before .before .before .before .before .pre .0 .few) (c .before .before .before .before .before .before .before .before .before .before .before .before .before .before .loop .inv .2) (c .before .before .before .before .before .before .before .before .before .sweep-down .ensures))
 
 slice-aggregate-age-2 : tie.Need-slice-aggregate-age-2 Inv-loop μ-loop
 slice-aggregate-age-2 c = search needs
@@ -87,40 +68,10 @@ either-requires : tie.Need-either-requires Inv-loop μ-loop
 either-requires c κs = search needs
 
 loop-less : tie.Need-loop-less Inv-loop μ-loop
-loop-less c =
-    let b = c .before .before .before .before in
-    let d = b .before .before .before .before in
-    let e = d .before .before .before .before .before .before .before .before in
-    let g = e .before .before .before .before .before .before .before .before in
-    let h = g .before .before .before .before .before .before .before .before in
-    rw (
-      g .before .before .before .before .before .loop-test .taken,
-      c .either .ensures,
-    )
-    (rounds-fall _
-    (grows-then _
-    (h .before .before .before .before .before .before .pre .0 .few)
-    (e .before .before .before .before .before .sweep-down .ensures) (b .before .before .before .sweep-up .ensures)))
+loop-less c = rw (c .before .before .before .before .before .before .before .before .before .before .before .before .before .before .before .before .before .before .before .before .before .loop-test .taken, c .either .ensures) (rounds-fall _ (grows-then _ (c .before .before .before .before .before .before .before .before .before .before .before .before .before .before .before .before .before .before .before .before .before .before .before .before .before .before .before .before .before .before .pre .0 .few) (c .before .before .before .before .before .before .before .before .before .before .before .before .before .before .before .before .before .sweep-down .ensures) (c .before .before .before .before .before .before .before .sweep-up .ensures)))
 
 loop-again : tie.Need-loop-again Inv-loop μ-loop
-loop-again c =
-    let b = c .before .before .before .before in
-    let d = b .before .before .before .before in
-    let e = d .before .before .before .before .before .before .before .before in
-    let g = e .before .before .before .before .before .before .before .before in
-    let h = g .before .before .before .before .before .before .before .before in (
-      b .before .before .before .sweep-up .ensures .resets .size ∙
-          (e .before .before .before .before .before .sweep-down .ensures .resets .size ∙
-          g .before .before .before .before .before .before .loop .inv .0),
-      search needs,
-      grows-on _
-          (h .before .before .before .before .before .before .pre .0 .few)
-          (grows-on _
-          (h .before .before .before .before .before .before .pre .0 .few)
-          (g .before .before .before .before .before .before .loop .inv .2)
-          (e .before .before .before .before .before .sweep-down .ensures))
-          (b .before .before .before .sweep-up .ensures),
-    )
+loop-again c = (c .before .before .before .before .before .before .before .sweep-up .ensures .resets .size ∙ (c .before .before .before .before .before .before .before .before .before .before .before .before .before .before .before .before .before .sweep-down .ensures .resets .size ∙ c .before .before .before .before .before .before .before .before .before .before .before .before .before .before .before .before .before .before .before .before .before .before .loop .inv .0), search needs, grows-on _ (c .before .before .before .before .before .before .before .before .before .before .before .before .before .before .before .before .before .before .before .before .before .before .before .before .before .before .before .before .before .before .pre .0 .few) (grows-on _ (c .before .before .before .before .before .before .before .before .before .before .before .before .before .before .before .before .before .before .before .before .before .before .before .before .before .before .before .before .before .before .pre .0 .few) (c .before .before .before .before .before .before .before .before .before .before .before .before .before .before .before .before .before .before .before .before .before .before .loop .inv .2) (c .before .before .before .before .before .before .before .before .before .before .before .before .before .before .before .before .before .sweep-down .ensures)) (c .before .before .before .before .before .before .before .sweep-up .ensures))
 
 same-length : tie.Need-same-length Inv-loop μ-loop
 same-length c = c .before .loop .inv .0
@@ -138,15 +89,11 @@ spread-spec =
     slice-aggregate-start
     start-requires
     loop-holds
-    slice-aggregate-hear
-    hear-requires
     slice-aggregate-sweep-down
     slice-aggregate-sweep-down-2
     sweep-down-requires
     slice-aggregate-age
     age-requires
-    slice-aggregate-hear-2
-    hear-requires-2
     slice-aggregate-sweep-up
     slice-aggregate-sweep-up-2
     sweep-up-requires

@@ -2,13 +2,12 @@
 use mathlib.Core.Path.{_∙_}
 use borrow.Author.Needs.{needs}
 use Rattle.asks.specs.Asks.{Names}
-use Rattle.program.specs.Flow.{keepsForm, sendRule, recvRule}
-use Rattle.sync_adds.specs.Syncs.{endRule, syncRule}
+use Rattle.program.specs.Flow.{keepsForm}
 use Rattle.rule_adds.specs.Rules.{askRule, AskLow}
 use Rattle.rule_adds.proofs.Asking.{result-low}
 use Rattle.row_adds.proofs.Rows.{bind-low, branches-low, argument-low}
 use Rattle.spreading.proofs.Growing.{grows-none}
-use Rattle.spreading.proofs.Asked.{grows-member}
+use Rattle.spreading.proofs.Asked.{grows-member, sync-sends}
 use Rattle.spreading.proofs.members.member_grows.Statement.{statement}
 use Rattle.spreading.proofs.members.member_grows.Tie as tie
 
@@ -124,12 +123,11 @@ same-length-2 : tie.Need-same-length-2
 same-length-2 c = search needs
 
 returns-2 : tie.Need-returns-2
-unfolding keepsForm sendRule recvRule askRule syncRule endRule
 returns-2 c =
     let b = c .before .before .before .before in
     let d = b .before .before .before .before in
     grows-member _ _ _ (d .before .before .before .before .before .before .pre .1 .1 .0) (d .before .before .before .before .before .before .pre .1 .1 .1) (d .before .before .row-in .ensures)
-    (d .b .given .1) _ _ (λ flow comm t. rw (b .before .form .given .1) at t) (c .before .before .member-adds .ensures)
+    (d .b .given .1) _ _ (λ flow comm t. sync-sends _ flow comm _ _ _ (rw (b .before .form .given .1) at t)) (c .before .before .member-adds .ensures)
 
 same-length-3 : tie.Need-same-length-3
 same-length-3 c = search needs

@@ -1,7 +1,7 @@
 -- `visit` meets its contract: what is passed over adds nothing.
 use native.Mathlib.Omega.{arith}
 use borrow.Author.Needs.{needs}
-use Rattle.spreading.proofs.Growing.{grows-none, grows-row}
+use Rattle.spreading.proofs.Growing.{grows-none, grows-then, grows-row, still-ready}
 use Rattle.spreading.proofs.members.visit.Statement.{statement}
 use Rattle.spreading.proofs.members.visit.Tie as tie
 
@@ -45,8 +45,14 @@ returns-2 c = search needs
 asks-some-requires : tie.Need-asks-some-requires
 asks-some-requires c κs = search needs
 
+receives-visit-requires : tie.Need-receives-visit-requires
+receives-visit-requires c κs = search needs
+
 members-visit-requires-2 : tie.Need-members-visit-requires-2
-members-visit-requires-2 c κs = search needs
+members-visit-requires-2 c κs = (still-ready _ _ (c .before .before .before .before .before .before .before .before .before .before .before .before .before .before .before .before .before .before .before .before .before .before .before .before .pre .0) (c .before .before .before .before .before .before .before .before .before .before .before .before .before .before .before .before .before .before .before .before .before .before .before .before .pre .1 .0) (c .before .before .before .before .before .before .receives-visit .ensures) .0, (still-ready _ _ (c .before .before .before .before .before .before .before .before .before .before .before .before .before .before .before .before .before .before .before .before .before .before .before .before .pre .0) (c .before .before .before .before .before .before .before .before .before .before .before .before .before .before .before .before .before .before .before .before .before .before .before .before .pre .1 .0) (c .before .before .before .before .before .before .receives-visit .ensures) .1, c .before .before .before .before .before .before .before .before .before .before .before .before .before .before .before .before .before .before .before .before .before .before .before .before .pre .1 .1))
+
+either-requires : tie.Need-either-requires
+either-requires c κs = search needs
 
 same-length-4 : tie.Need-same-length-4
 same-length-4 c = search needs
@@ -55,7 +61,7 @@ same-length-5 : tie.Need-same-length-5
 same-length-5 c = search needs
 
 returns-3 : tie.Need-returns-3
-returns-3 c = search needs
+returns-3 c = rw (c .either .ensures) (grows-then _ (c .before .before .before .before .before .before .before .before .before .before .before .before .before .before .before .before .before .before .before .before .before .before .before .before .before .before .before .before .before .before .pre .0 .few) (c .before .before .before .before .before .before .before .before .before .before .before .before .receives-visit .ensures) (c .before .before .before .before .before .members-visit2 .ensures))
 
 same-length-6 : tie.Need-same-length-6
 same-length-6 c = search needs
@@ -80,7 +86,9 @@ visit-spec =
     same-length-3
     returns-2
     asks-some-requires
+    receives-visit-requires
     members-visit-requires-2
+    either-requires
     same-length-4
     same-length-5
     returns-3

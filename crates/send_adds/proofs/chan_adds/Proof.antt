@@ -2,11 +2,11 @@
 use mathlib.Core.Path.{sym, _∙_}
 use borrow.Author.Needs.{needs}
 use Rattle.forms.proofs.Forms.{no-chan, kinds, but}
-use Rattle.sync_adds.specs.Syncs.{chanRule}
+use Rattle.send_adds.specs.Sends.{chanRule}
 use Rattle.set_adds.proofs.Adding.{adds-member, adds-other}
-use Rattle.sync_adds.proofs.Syncing.{chan-none, chan-some}
-use Rattle.sync_adds.proofs.chan_adds.Statement.{statement}
-use Rattle.sync_adds.proofs.chan_adds.Tie as tie
+use Rattle.send_adds.proofs.Sending.{chan-none, chan-some}
+use Rattle.send_adds.proofs.chan_adds.Statement.{statement}
+use Rattle.send_adds.proofs.chan_adds.Tie as tie
 
 flow-has-requires : tie.Need-flow-has-requires
 flow-has-requires c κs = search needs
@@ -22,22 +22,17 @@ same-length c = search needs
 
 returns : tie.Need-returns
 unfolding chanRule
-returns c =
-    adds-member _ _ (sym (c .before .before .before .before .flow-has .ensures) ∙ c .before .before .before .if1 .taken)
-    (chan-none _ _ (c .before .form-at .ensures) (no-chan (but 1 kinds) (c .before .form-at .result) tt (c .match .keys2)) _ _)
+returns c = adds-member _ _ (sym (c .before .before .before .before .flow-has .ensures) ∙ c .before .before .before .if1 .taken) (chan-none _ _ (c .before .form-at .ensures) (no-chan (but 1 kinds) (c .before .form-at .result) tt (c .match .keys2)) _ _)
 
-end-adds-requires : tie.Need-end-adds-requires
-end-adds-requires c κs = search needs
+sent-adds-requires : tie.Need-sent-adds-requires
+sent-adds-requires c κs = search needs
 
 same-length-2 : tie.Need-same-length-2
 same-length-2 c = search needs
 
 returns-2 : tie.Need-returns-2
 unfolding chanRule
-returns-2 c =
-    let b = c .before .before .before .before in
-    let d = b .before .before .before .before in
-    adds-member _ _ (sym (d .before .flow-has .ensures) ∙ d .if1 .taken) (chan-some _ _ (b .before .before .form-at .ensures) (b .enum-told .given .1) _ (c .before .before .end-adds .ensures))
+returns-2 c = adds-member _ _ (sym (c .before .before .before .before .before .before .before .before .before .flow-has .ensures) ∙ c .before .before .before .before .before .before .before .before .if1 .taken) (chan-some _ _ (c .before .before .before .before .before .before .form-at .ensures) (c .before .before .before .before .enum-told .given .1) _ (c .before .before .sent-adds .ensures))
 
 same-length-3 : tie.Need-same-length-3
 same-length-3 c = search needs
@@ -55,7 +50,7 @@ chan-adds-spec =
     enum-told
     same-length
     returns
-    end-adds-requires
+    sent-adds-requires
     same-length-2
     returns-2
     same-length-3

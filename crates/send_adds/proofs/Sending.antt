@@ -1,10 +1,10 @@
--- The rule of a sync, as changes of a store meet it.
+-- The rule of a sync for what it sends, as changes of a store meet it.
 use Prim.Native.Nat.{ℕ, _<_, _≤_}
-use mathlib.Core.Bool.{Bool, false, _||_, and-true}
+use mathlib.Core.Bool.{Bool, false, _||_}
 use mathlib.Core.List.{List, _∷_}
 use mathlib.Core.Path.{_≡_, sym, _∙_}
 use Rattle.program.specs.declared.Form.{Form}
-use Rattle.program.specs.declared.Form.the-variants.{Chan, Send, Recv}
+use Rattle.program.specs.declared.Form.the-variants.{Chan, Send}
 use Rattle.program.specs.Each.{Each, _&_}
 use Rattle.program.specs.Maybe.{when}
 use Rattle.program.specs.Test.{all}
@@ -17,11 +17,10 @@ use Rattle.calls.specs.Layout.{rowsSize}
 use Rattle.store.specs.Rows.{storeProgram}
 use Rattle.store.proofs.Laws.{program-length}
 use Rattle.forms.specs.Forms.{formIn}
-use Rattle.forms.proofs.Forms.{chan-at, send-at, recv-at}
+use Rattle.forms.proofs.Forms.{chan-at, send-at}
 use Rattle.set_adds.specs.Adding.{Rule, Adds}
 use Rattle.set_adds.proofs.Adding.{adds-none, adds-as, adds-after, rows-same}
-use Rattle.sync_adds.specs.declared.End.{End}
-use Rattle.sync_adds.specs.Syncs.{Ready, endRule, chanRule, syncRule}
+use Rattle.send_adds.specs.Sends.{Ready, sentRule, chanRule, sendRowRule}
 use lib.ListN.{length}
 
 -- ---- a store that is ready stays so
@@ -46,10 +45,10 @@ module _ (p : Program) (k : ℕ) {f : Form} (e : f ≡ formIn (rowAt p k)) where
 -- ---- all rows
 
 module _ (rows k : ℕ) (e : k ≡ rows) {s s′ : Bytes} {more : Bool} where
-  pub chans-all : (n c : ℕ) (end : End) → Adds (λ flow comm. all k (λ i. chanRule (storeProgram rows s) n end c i flow comm)) s s′ more
-      → Adds (λ flow comm. forEachChan (storeProgram rows s) (flow c) (λ j. endRule (storeProgram rows s) n end j flow comm)) s s′ more
+  pub chans-all : (n m c : ℕ) → Adds (λ flow comm. all k (λ i. chanRule (storeProgram rows s) n m c i flow comm)) s s′ more
+      → Adds (λ flow comm. forEachChan (storeProgram rows s) (flow c) (λ j. sentRule (storeProgram rows s) n m j flow comm)) s s′ more
   unfolding chanRule forEachChan forEach
-  chans-all n c end h = rw (program-length rows s) (rw e at h)
+  chans-all n m c h = rw (program-length rows s) (rw e at h)
 
 -- ---- numbers below the limit
 
@@ -70,18 +69,14 @@ module _ {rows : ℕ} {s : Bytes} (ready : Ready rows s) (k : ℕ) {f : Form} (e
   unfolding formNumbers
   send-low q = second-low (numbers-low _ q)
 
--- ---- what a sync asks of a row, by the row's form
+-- ---- what a sync asks of a send row
 
-pub end-sent : (rows n m k : ℕ) {s₀ s₁ s₂ : Bytes} {a b : Bool} → rows ≤ rowLimit → Adds (λ flow comm. flow n u) s₀ s₁ a
-    → Adds (λ flow comm. lies (storeProgram rows s₁) (flow m) (comm k)) s₁ s₂ b → Adds (endRule (storeProgram rows s₀) n (End.Send m) k) s₀ s₂ (a || b)
-unfolding endRule
-end-sent rows n m k few h g = adds-after rows (λ p flow comm. lies p (flow m) (comm k)) few h g
+pub unit-sent : (rows n m k : ℕ) {s₀ s₁ s₂ : Bytes} {a b : Bool} → rows ≤ rowLimit → Adds (λ flow comm. flow n u) s₀ s₁ a
+    → Adds (λ flow comm. lies (storeProgram rows s₁) (flow m) (comm k)) s₁ s₂ b → Adds (sentRule (storeProgram rows s₀) n m k) s₀ s₂ (a || b)
+unfolding sentRule
+unit-sent rows n m k few h g = adds-after rows (λ p flow comm. lies p (flow m) (comm k)) few h g
 
 module _ (p : Program) (n k : ℕ) {f : Form} (e : f ≡ formIn (rowAt p k)) {s s′ : Bytes} {more : Bool} where
-  pub sync-send : {c m : ℕ} → f ≡ Send c m → Adds (λ flow comm. forEachChan p (flow c) (λ j. endRule p n (End.Send m) j flow comm)) s s′ more → Adds (syncRule p n k) s s′ more
-  unfolding syncRule when
-  sync-send q h = adds-as _ _ (λ flow comm. rw (send-at p k e, recv-at p k e, q) (sym (and-true _))) h
-
-  pub sync-recv : {c : ℕ} → f ≡ Recv c → Adds (λ flow comm. forEachChan p (flow c) (λ j. endRule p n End.Recv j flow comm)) s s′ more → Adds (syncRule p n k) s s′ more
-  unfolding syncRule when
-  sync-recv q h = adds-as _ _ (λ flow comm. rw (send-at p k e, recv-at p k e, q)) h
+  pub send-sent : {c m : ℕ} → f ≡ Send c m → Adds (λ flow comm. forEachChan p (flow c) (λ j. sentRule p n m j flow comm)) s s′ more → Adds (sendRowRule p n k) s s′ more
+  unfolding sendRowRule when
+  send-sent q h = adds-as _ _ (λ flow comm. rw (send-at p k e, q)) h

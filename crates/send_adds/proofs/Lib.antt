@@ -1,0 +1,2 @@
+-- Laws of the rule of a sync for what it sends.
+pub mod Sending

@@ -1,0 +1,2 @@
+-- The rule of a sync, for what it sends.
+pub mod Sends

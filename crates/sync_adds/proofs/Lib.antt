@@ -1,2 +1,0 @@
--- Laws of the rule of a sync.
-pub mod Syncing

@@ -1,2 +1,0 @@
--- The rule of a sync.
-pub mod Syncs
