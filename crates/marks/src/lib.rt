@@ -209,6 +209,42 @@ pub fn asks_some(store: &[u8], marks: &[u8], r: u8) -> bool {
     has_marked(store, marks, watched)
 }
 
+// A mark of row k, if it is a receive.
+fn receive_mark(part: u8, mark: u8) -> u8 {
+    if part == COMMS { mark } else { 0 }
+}
+
+// Whether a sync at row r may ask anything anew of the receives in its set. Every member is looked at, so that the loop has no way out but its end.
+pub fn asks_receives(store: &[u8], marks: &[u8], parts: &[u8], r: u8) -> bool {
+    if cell(store, r, 0) != SYNC {
+        return false;
+    }
+    let watched = cell(store, r, 3) as usize;
+    let from = Store::FLOWS + watched * Store::MEMBERS;
+    if store.len() < from + Store::MEMBERS {
+        return false;
+    }
+    if marks.len() < SIZE {
+        return false;
+    }
+    if parts.len() < PARTS {
+        return false;
+    }
+    let changed = byte_at(marks, watched);
+    let mut found = 0;
+    let mut k = 0;
+    while k < Store::ROWS {
+        let second = Store::ROWS + k;
+        let member = MEMBERS + 1 + k;
+        let at = from + 1 + k;
+        let mark = byte_order::larger(changed, marks[member]);
+        let new = both(store[at], receive_mark(parts[second], mark));
+        found = byte_order::larger(found, new);
+        k += 1;
+    }
+    0 < found
+}
+
 // Whether row r is a sync and row k a receive: a sync has all its receives together.
 fn received(store: &[u8], r: u8, k: u8) -> bool {
     if cell(store, r, 0) != SYNC {

@@ -66,7 +66,8 @@ bind-keeps p r e q h = adds-as _ _ (λ flow comm. rw (sym e ∙ q)) h
 -- ---- a sync: what it sends, and then what it receives
 
 pub sync-both : (rows r n e : ℕ) {s₀ s₁ s₂ : Bytes} {a b : Bool} → rows ≤ rowLimit
-    → Adds (λ flow comm. forEach (storeProgram rows s₀) (flow e) (λ k. askRule (storeProgram rows s₀) n Ask.Send k flow comm)) s₀ s₁ a → Adds (recvsRule (storeProgram rows s₁) n e) s₁ s₂ b
+    → Adds (λ flow comm. forEach (storeProgram rows s₀) (flow e) (λ k. askRule (storeProgram rows s₀) n Ask.Send k flow comm)) s₀ s₁ a
+    → Adds (recvsRule (storeProgram rows s₁) n e) s₁ s₂ b
     → Adds (λ flow comm. keepsForm (storeProgram rows s₀) flow comm r n (Sync e)) s₀ s₂ (a || b)
 unfolding sendRule askRule sendRowRule sentRule
 sync-both rows r n e {s₀} few h k = adds-as _ _ (λ flow comm. sym (sync-parts (storeProgram rows s₀) flow comm r n e)) (adds-after rows (λ p. recvsRule p n e) few h k)

@@ -104,17 +104,20 @@ fn receives_grow(store: &mut [u8], rows: u8, r: u8) -> bool
     recvs_add(store, rows, n, event)
 }
 
-// The same, with marks.
+// The same, unless there is nothing new to ask.
 fn receives_visit(store: &mut [u8], rows: u8, r: u8, parts: &[u8], marks: &mut [u8]) -> bool
     requires { ⌜ Ready rows (now store) ⌝ }
     requires { ⌜ r < rows ⌝ }
     ensures { λ more. ⌜ Grows rows (now (store .entry)) (now (store .exit)) more ⌝ }
 {
-    let more = receives_grow(store, rows, r);
-    if more {
-        marks::note(marks, parts, cell(store, r, 1));
+    if marks::asks_receives(store, marks, parts, r) {
+        let more = receives_grow(store, rows, r);
+        if more {
+            marks::note(marks, parts, cell(store, r, 1));
+        }
+        return more;
     }
-    more
+    false
 }
 
 // Adds what the rule of row r asks of the rows in its set, each apart unless there is nothing new to ask.

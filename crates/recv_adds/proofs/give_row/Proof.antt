@@ -34,10 +34,21 @@ same-length : tie.Need-same-length
 same-length c = search needs
 
 returns-2 : tie.Need-returns-2
-returns-2 c = takes-as _ _ (λ a. gives-chan _ _ _ (c .before .before .before .before .before .before .before .form-at .ensures) _ (among _ _ (c .before .before .before .before .before .before .before .before .before .before .before .before .before .pre .1 .0) ∙ rw (← (c .before .before .before .before .before .before .before .before .before .byte-at .ensures)) (lt-ltb 0 _ (c .before .before .before .before .before .before .before .before .if1 .taken))) (c .before .before .before .before .before .enum-told .given .1) a ∙ sym (ap (λ (t : Set). t a) (c .before .before .before .comm-set .ensures))) (c .before .before .join .ensures)
+returns-2 c =
+    let at-enum-told = c .before .before .before .before .before in
+    let at-form-at = at-enum-told .before .before in
+    let at-if1 = at-form-at .before in
+    let at-byte-at = at-if1 .before in
+    let start = at-byte-at .before .before .before .before in
+    takes-as _ _
+    (λ a. gives-chan _ _ _ (at-form-at .form-at .ensures) _ (among _ _ (start .pre .1 .0) ∙ rw (← (at-byte-at .byte-at .ensures)) (lt-ltb 0 _ (at-if1 .if1 .taken))) (at-enum-told .enum-told .given .1) a
+    ∙ sym (ap (λ (t : Set). t a) (c .before .before .before .comm-set .ensures)))
+    (c .before .before .join .ensures)
 
 returns-3 : tie.Need-returns-3
-returns-3 c = takes-none _ _ (gives-other _ _ _ _ (among _ _ (c .before .before .before .before .before .pre .1 .0) ∙ rw (← (c .before .byte-at .ensures)) (le-ltb 0 _ (c .if1 .left))))
+returns-3 c =
+    let start = c .before .before .before .before .before in
+    takes-none _ _ (gives-other _ _ _ _ (among _ _ (start .pre .1 .0) ∙ rw (← (c .before .byte-at .ensures)) (le-ltb 0 _ (c .if1 .left))))
 
 pub give-row-spec : {M : Type 1} → statement M
 give-row-spec =

@@ -30,7 +30,15 @@ same-length : tie.Need-same-length
 same-length c = search needs
 
 returns-2 : tie.Need-returns-2
-returns-2 c = takes-as _ _ (λ a. hears-recv _ _ _ (c .before .before .before .before .before .before .before .before .form-at .ensures) _ (sym (c .before .before .before .before .before .before .before .before .before .before .flow-has .ensures) ∙ c .before .before .before .before .before .before .before .before .before .if1 .taken) (c .before .before .before .before .before .before .channel .given .1) a ∙ sym (ap (λ (t : Set). t a) (c .before .before .before .flow-set .ensures))) (c .before .before .join .ensures)
+returns-2 c =
+    let at-channel = c .before .before .before .before .before .before in
+    let at-form-at = at-channel .before .before in
+    let at-if1 = at-form-at .before in
+    let at-flow-has = at-if1 .before in
+    takes-as _ _
+    (λ a. hears-recv _ _ _ (at-form-at .form-at .ensures) _ (sym (at-flow-has .flow-has .ensures) ∙ at-if1 .if1 .taken) (at-channel .channel .given .1) a
+    ∙ sym (ap (λ (t : Set). t a) (c .before .before .before .flow-set .ensures)))
+    (c .before .before .join .ensures)
 
 returns-3 : tie.Need-returns-3
 returns-3 c = takes-none _ _ (hears-other _ _ _ _ (sym (c .before .flow-has .ensures) ∙ c .if1 .left))

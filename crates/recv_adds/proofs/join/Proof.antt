@@ -44,7 +44,9 @@ loop-less : tie.Need-loop-less Inv-loop μ-loop
 loop-less c = search needs
 
 loop-again : tie.Need-loop-again Inv-loop μ-loop
-loop-again c = (omega arith, simp length-set (c .before .before .before .before .before .loop .inv .1), rw (c .larger .ensures, c .before .before .smaller .ensures) (taken-more (c .before .before .before .before .before .loop .inv .2) (omega arith)))
+loop-again c =
+    let at-loop = c .before .before .before .before .before in
+    (omega arith, simp length-set (at-loop .loop .inv .1), rw (c .larger .ensures, c .before .before .smaller .ensures) (taken-more (at-loop .loop .inv .2) (omega arith)))
 
 same-length : tie.Need-same-length Inv-loop μ-loop
 same-length c = c .before .loop .inv .1

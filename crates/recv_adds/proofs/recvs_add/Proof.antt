@@ -23,7 +23,11 @@ same-length : tie.Need-same-length
 same-length c = search needs
 
 returns : tie.Need-returns
-returns c = received _ _ _ _ _ _ (c .before .before .before .before .before .before .before .before .before .before .before .pre .0 .few) (c .before .before .before .before .before .before .before .before .heard .ensures) (c .before .before .before .before .before .held .ensures) (c .before .before .add-members .ensures)
+returns c =
+    let at-held = c .before .before .before .before .before in
+    let at-heard = at-held .before .before .before in
+    let start = at-heard .before .before .before in
+    received _ _ _ _ _ _ (start .pre .0 .few) (at-heard .heard .ensures) (at-held .held .ensures) (c .before .before .add-members .ensures)
 
 pub recvs-add-spec : {M : Type 1} → statement M
 recvs-add-spec =

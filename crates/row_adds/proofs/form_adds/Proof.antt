@@ -56,7 +56,10 @@ each-adds-requires c κs =
     (c .before .before .before .before .before .before .pre .0, (c .before .before .before .before .before .before .pre .1 .0, (c .before .before .before .before .before .before .pre .1 .1 .1, tt)))
 
 recvs-add-requires : tie.Need-recvs-add-requires
-recvs-add-requires c κs = (record { size = omega (arith, c .before .before .before .each-adds .ensures .size, c .before .before .before .before .before .before .before .before .before .before .pre .0 .size); few = c .before .before .before .before .before .before .before .before .before .before .pre .0 .few }, c .before .before .before .before .before .before .before .before .before .before .pre .1 .1 .1)
+recvs-add-requires c κs =
+    let events = c .before .before .before in
+    let start = events .before .before .before .before .before .before .before in
+    (record { size = omega (arith, events .each-adds .ensures .size, start .pre .0 .size); few = omega (arith, start .pre .0 .few) }, start .pre .1 .1 .1)
 
 either-requires-2 : tie.Need-either-requires-2
 either-requires-2 c κs = search needs
@@ -158,7 +161,11 @@ same-length-4 : tie.Need-same-length-4
 same-length-4 c = search needs
 
 returns-4 : tie.Need-returns-4
-returns-4 c = rw (c .before .before .before .before .before .before .before .before .before .before .form2 .given .1, c .either2 .ensures) (sync-both _ _ _ _ (c .before .before .before .before .before .before .before .before .before .before .before .before .before .before .pre .0 .few) (c .before .before .before .before .before .before .before .each-adds .ensures) (c .before .before .before .recvs-add .ensures))
+returns-4 c =
+    let at-each-adds = c .before .before .before .before .before .before .before in
+    let at-form = at-each-adds .before .before .before in
+    let start = at-form .before .before .before .before in
+    rw (at-form .form2 .given .1, c .either2 .ensures) (sync-both _ _ _ _ (start .pre .0 .few) (at-each-adds .each-adds .ensures) (c .before .before .before .recvs-add .ensures))
 
 same-length-5 : tie.Need-same-length-5
 same-length-5 c = search needs

@@ -22,7 +22,9 @@ same-length c = search needs
 
 returns : tie.Need-returns
 unfolding chanRule
-returns c = adds-member _ _ (sym (c .before .before .before .before .flow-has .ensures) ∙ c .before .before .before .if1 .taken) (chan-none _ _ (c .before .form-at .ensures) (no-chan (but 1 kinds) (c .before .form-at .result) tt (c .match .keys2)) _ _)
+returns c =
+    adds-member _ _ (sym (c .before .before .before .before .flow-has .ensures) ∙ c .before .before .before .if1 .taken)
+    (chan-none _ _ (c .before .form-at .ensures) (no-chan (but 1 kinds) (c .before .form-at .result) tt (c .match .keys2)) _ _)
 
 sent-adds-requires : tie.Need-sent-adds-requires
 sent-adds-requires c κs = search needs
@@ -32,7 +34,12 @@ same-length-2 c = search needs
 
 returns-2 : tie.Need-returns-2
 unfolding chanRule
-returns-2 c = adds-member _ _ (sym (c .before .before .before .before .before .before .before .before .before .flow-has .ensures) ∙ c .before .before .before .before .before .before .before .before .if1 .taken) (chan-some _ _ (c .before .before .before .before .before .before .form-at .ensures) (c .before .before .before .before .enum-told .given .1) _ (c .before .before .sent-adds .ensures))
+returns-2 c =
+    let at-form-at = c .before .before .before .before .before .before in
+    let at-if1 = at-form-at .before .before in
+    let at-flow-has = at-if1 .before in
+    adds-member _ _ (sym (at-flow-has .flow-has .ensures) ∙ at-if1 .if1 .taken)
+    (chan-some _ _ (at-form-at .form-at .ensures) (c .before .before .before .before .enum-told .given .1) _ (c .before .before .sent-adds .ensures))
 
 same-length-3 : tie.Need-same-length-3
 same-length-3 c = search needs

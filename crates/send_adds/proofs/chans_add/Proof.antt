@@ -24,7 +24,7 @@ loop-holds : tie.Need-loop-holds Inv-loop μ-loop
 loop-holds c = (omega arith, refl, adds-first _ _)
 
 chan-adds-requires : tie.Need-chan-adds-requires Inv-loop μ-loop
-chan-adds-requires c κs = (omega arith, c .before .before .before .before .pre .1, c .before .before .before .before .pre .2, omega arith, c .before .before .before .before .pre .3)
+chan-adds-requires c κs = let start = c .before .before .before .before in (omega arith, start .pre .1, start .pre .2, omega arith, start .pre .3)
 
 either-requires : tie.Need-either-requires Inv-loop μ-loop
 either-requires c κs = search needs
@@ -36,7 +36,14 @@ loop-less : tie.Need-loop-less Inv-loop μ-loop
 loop-less c = search needs
 
 loop-again : tie.Need-loop-again Inv-loop μ-loop
-loop-again c = (omega arith, c .before .before .before .chan-adds .ensures .size ∙ c .before .before .before .before .before .before .loop .inv .1, rw (c .either .ensures) (adds-next _ _ (λ p i. chanRule p (c .before .before .before .before .before .before .before .before .args .n) (c .before .before .before .before .before .before .before .before .args .message) (c .before .before .before .before .before .before .before .before .args .c) i) (c .before .before .before .before .before .before .before .before .pre .1) (c .before .before .before .before .before .before .loop .inv .2) (c .before .before .before .chan-adds .ensures)))
+loop-again c =
+    let at-loop = c .before .before .before .before .before .before in
+    let start = at-loop .before .before in (
+      omega arith,
+      c .before .before .before .chan-adds .ensures .size ∙ at-loop .loop .inv .1,
+      rw (c .either .ensures)
+          (adds-next _ _ (λ p i. chanRule p (start .args .n) (start .args .message) (start .args .c) i) (start .pre .1) (at-loop .loop .inv .2) (c .before .before .before .chan-adds .ensures)),
+    )
 
 same-length : tie.Need-same-length Inv-loop μ-loop
 same-length c = c .before .loop .inv .1

@@ -22,13 +22,18 @@ unfolding sendRowRule when
 returns c = adds-none _ _ (λ flow comm. rw (send-at _ _ (c .before .form-at .ensures), no-send (but 2 kinds) (c .before .form-at .result) tt (c .match .keys2)))
 
 chans-add-requires : tie.Need-chans-add-requires
-chans-add-requires c κs = (c .before .before .before .before .before .before .before .pre .0 .size, c .before .before .before .before .before .before .before .pre .0 .few, c .before .before .before .before .before .before .before .pre .1, send-low (c .before .before .before .before .before .before .before .pre .0) _ (c .before .before .before .before .form-at .ensures) (c .before .before .channel .given .1))
+chans-add-requires c κs =
+    let start = c .before .before .before .before .before .before .before in
+    (start .pre .0 .size, start .pre .0 .few, start .pre .1, send-low (start .pre .0) _ (c .before .before .before .before .form-at .ensures) (c .before .before .channel .given .1))
 
 same-length-2 : tie.Need-same-length-2
 same-length-2 c = search needs
 
 returns-2 : tie.Need-returns-2
-returns-2 c = send-sent _ _ _ (c .before .before .before .before .before .before .before .form-at .ensures) (c .before .before .before .before .before .channel .given .1) (c .before .before .chans-add .ensures)
+returns-2 c =
+    let at-channel = c .before .before .before .before .before in
+    let at-form-at = at-channel .before .before in
+    send-sent _ _ _ (at-form-at .form-at .ensures) (at-channel .channel .given .1) (c .before .before .chans-add .ensures)
 
 pub send-adds-spec : {M : Type 1} → statement M
 send-adds-spec =

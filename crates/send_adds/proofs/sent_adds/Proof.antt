@@ -12,7 +12,9 @@ put-member-requires c κs = search needs
 
 add-set-requires : tie.Need-add-set-requires
 unfolding numberOf
-add-set-requires c κs = ((omega (arith, c .before .before .before .put-member .ensures .size), c .before .before .before .before .before .before .pre .1), (c .before .before .before .before .before .before .pre .4, c .before .before .before .before .before .before .pre .3))
+add-set-requires c κs =
+    let start = c .before .before .before .before .before .before in
+    ((omega (arith, c .before .before .before .put-member .ensures .size), start .pre .1), (omega (arith, start .pre), omega (arith, start .pre)))
 
 either-requires : tie.Need-either-requires
 either-requires c κs = search needs
@@ -22,7 +24,10 @@ same-length c = search needs
 
 returns : tie.Need-returns
 unfolding setAt abstractOf
-returns c = rw (c .either .ensures) (unit-sent _ _ _ _ (c .before .before .before .before .before .before .before .before .before .before .pre .1) (c .before .before .before .before .before .before .before .put-member .ensures) (c .before .before .before .add-set .ensures))
+returns c =
+    let at-put-member = c .before .before .before .before .before .before .before in
+    let start = at-put-member .before .before .before in
+    rw (c .either .ensures) (unit-sent _ _ _ _ (start .pre .1) (at-put-member .put-member .ensures) (c .before .before .before .add-set .ensures))
 
 pub sent-adds-spec : {M : Type 1} → statement M
 sent-adds-spec =

@@ -41,7 +41,10 @@ slice-aggregate-sweep-down-2 : tie.Need-slice-aggregate-sweep-down-2 Inv-loop μ
 slice-aggregate-sweep-down-2 c = search needs
 
 sweep-down-requires : tie.Need-sweep-down-requires Inv-loop μ-loop
-sweep-down-requires c κs = still-ready _ _ (c .before .before .before .before .before .before .before .before .before .before .before .before .pre .0) (c .before .before .before .before .before .before .before .before .before .before .before .before .pre .1) (c .before .before .before .before .loop .inv .2)
+sweep-down-requires c κs =
+    let start-1 = c .before .before .before .before .before .before .before .before in
+    let start = start-1 .before .before .before .before in
+    still-ready _ _ (start .pre .0) (start .pre .1) (c .before .before .before .before .loop .inv .2)
 
 slice-aggregate-age : tie.Need-slice-aggregate-age Inv-loop μ-loop
 slice-aggregate-age c = search needs
@@ -56,7 +59,12 @@ slice-aggregate-sweep-up-2 : tie.Need-slice-aggregate-sweep-up-2 Inv-loop μ-loo
 slice-aggregate-sweep-up-2 c = search needs
 
 sweep-up-requires : tie.Need-sweep-up-requires Inv-loop μ-loop
-sweep-up-requires c κs = still-ready _ _ (c .before .before .before .before .before .before .before .before .before .before .before .before .before .before .before .before .before .before .before .before .before .before .pre .0) (c .before .before .before .before .before .before .before .before .before .before .before .before .before .before .before .before .before .before .before .before .before .before .pre .1) (grows-on _ (c .before .before .before .before .before .before .before .before .before .before .before .before .before .before .before .before .before .before .before .before .before .before .pre .0 .few) (c .before .before .before .before .before .before .before .before .before .before .before .before .before .before .loop .inv .2) (c .before .before .before .before .before .before .before .before .before .sweep-down .ensures))
+sweep-up-requires c κs =
+    let at-sweep-down-1 = c .before .before .before .before .before .before .before .before in
+    let at-sweep-down = at-sweep-down-1 .before in
+    let at-loop = at-sweep-down .before .before .before .before .before in
+    let start = at-loop .before .before .before .before .before .before .before .before in
+    still-ready _ _ (start .pre .0) (start .pre .1) (grows-on _ (start .pre .0 .few) (at-loop .loop .inv .2) (at-sweep-down .sweep-down .ensures))
 
 slice-aggregate-age-2 : tie.Need-slice-aggregate-age-2 Inv-loop μ-loop
 slice-aggregate-age-2 c = search needs
@@ -68,10 +76,26 @@ either-requires : tie.Need-either-requires Inv-loop μ-loop
 either-requires c κs = search needs
 
 loop-less : tie.Need-loop-less Inv-loop μ-loop
-loop-less c = rw (c .before .before .before .before .before .before .before .before .before .before .before .before .before .before .before .before .before .before .before .before .before .loop-test .taken, c .either .ensures) (rounds-fall _ (grows-then _ (c .before .before .before .before .before .before .before .before .before .before .before .before .before .before .before .before .before .before .before .before .before .before .before .before .before .before .before .before .before .before .pre .0 .few) (c .before .before .before .before .before .before .before .before .before .before .before .before .before .before .before .before .before .sweep-down .ensures) (c .before .before .before .before .before .before .before .sweep-up .ensures)))
+loop-less c =
+    let at-sweep-up = c .before .before .before .before .before .before .before in
+    let at-sweep-down-1 = at-sweep-up .before .before .before .before .before .before .before .before in
+    let at-sweep-down = at-sweep-down-1 .before .before in
+    let at-loop-test = at-sweep-down .before .before .before .before in
+    let start-1 = at-loop-test .before .before .before .before .before .before .before .before in
+    let start = start-1 .before in
+    rw (at-loop-test .loop-test .taken, c .either .ensures) (rounds-fall _ (grows-then _ (start .pre .0 .few) (at-sweep-down .sweep-down .ensures) (at-sweep-up .sweep-up .ensures)))
 
 loop-again : tie.Need-loop-again Inv-loop μ-loop
-loop-again c = (c .before .before .before .before .before .before .before .sweep-up .ensures .resets .size ∙ (c .before .before .before .before .before .before .before .before .before .before .before .before .before .before .before .before .before .sweep-down .ensures .resets .size ∙ c .before .before .before .before .before .before .before .before .before .before .before .before .before .before .before .before .before .before .before .before .before .before .loop .inv .0), search needs, grows-on _ (c .before .before .before .before .before .before .before .before .before .before .before .before .before .before .before .before .before .before .before .before .before .before .before .before .before .before .before .before .before .before .pre .0 .few) (grows-on _ (c .before .before .before .before .before .before .before .before .before .before .before .before .before .before .before .before .before .before .before .before .before .before .before .before .before .before .before .before .before .before .pre .0 .few) (c .before .before .before .before .before .before .before .before .before .before .before .before .before .before .before .before .before .before .before .before .before .before .loop .inv .2) (c .before .before .before .before .before .before .before .before .before .before .before .before .before .before .before .before .before .sweep-down .ensures)) (c .before .before .before .before .before .before .before .sweep-up .ensures))
+loop-again c =
+    let at-sweep-up = c .before .before .before .before .before .before .before in
+    let at-sweep-down-1 = at-sweep-up .before .before .before .before .before .before .before .before in
+    let at-sweep-down = at-sweep-down-1 .before .before in
+    let at-loop = at-sweep-down .before .before .before .before .before in
+    let start = at-loop .before .before .before .before .before .before .before .before in (
+      at-sweep-up .sweep-up .ensures .resets .size ∙ (at-sweep-down .sweep-down .ensures .resets .size ∙ at-loop .loop .inv .0),
+      search needs,
+      grows-on _ (start .pre .0 .few) (grows-on _ (start .pre .0 .few) (at-loop .loop .inv .2) (at-sweep-down .sweep-down .ensures)) (at-sweep-up .sweep-up .ensures),
+    )
 
 same-length : tie.Need-same-length Inv-loop μ-loop
 same-length c = c .before .loop .inv .0

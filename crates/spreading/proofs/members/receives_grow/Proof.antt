@@ -31,13 +31,22 @@ returns-2 : tie.Need-returns-2
 returns-2 c = grows-none _ _
 
 recvs-add-requires : tie.Need-recvs-add-requires
-recvs-add-requires c κs = (record { size = c .before .before .before .before .before .before .before .before .before .before .pre .0 .size; few = c .before .before .before .before .before .before .before .before .before .before .pre .0 .few }, bind-low (c .before .before .before .before .before .before .before .before .before .before .pre .0) _ (c .before .before .before .before .before .before .before .row-in .ensures) (c .before .before .before .before .before .b .given .1) .0)
+recvs-add-requires c κs =
+    let at-b = c .before .before .before .before .before in
+    let at-row-in = at-b .before .before in
+    let start = at-row-in .before .before .before in
+    (record { size = start .pre .0 .size; few = start .pre .0 .few }, bind-low (start .pre .0) _ (at-row-in .row-in .ensures) (at-b .b .given .1) .0)
 
 same-length-3 : tie.Need-same-length-3
 same-length-3 c = search needs
 
 returns-3 : tie.Need-returns-3
-returns-3 c = grows-receives _ _ (c .before .before .before .before .before .before .before .before .before .before .before .before .before .pre .1) (c .before .before .before .before .before .before .before .before .before .before .row-in .ensures) (c .before .before .before .before .before .before .before .before .b .given .1) (c .before .before .before .before .before .form .given .1) (c .before .before .recvs-add .ensures)
+returns-3 c =
+    let at-form = c .before .before .before .before .before in
+    let at-b = at-form .before .before .before in
+    let at-row-in = at-b .before .before in
+    let start = at-row-in .before .before .before in
+    grows-receives _ _ (start .pre .1) (at-row-in .row-in .ensures) (at-b .b .given .1) (at-form .form .given .1) (c .before .before .recvs-add .ensures)
 
 pub receives-grow-spec : {M : Type 1} → statement M
 receives-grow-spec =

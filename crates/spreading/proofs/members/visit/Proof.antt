@@ -49,7 +49,13 @@ receives-visit-requires : tie.Need-receives-visit-requires
 receives-visit-requires c κs = search needs
 
 members-visit-requires-2 : tie.Need-members-visit-requires-2
-members-visit-requires-2 c κs = (still-ready _ _ (c .before .before .before .before .before .before .before .before .before .before .before .before .before .before .before .before .before .before .before .before .before .before .before .before .pre .0) (c .before .before .before .before .before .before .before .before .before .before .before .before .before .before .before .before .before .before .before .before .before .before .before .before .pre .1 .0) (c .before .before .before .before .before .before .receives-visit .ensures) .0, (still-ready _ _ (c .before .before .before .before .before .before .before .before .before .before .before .before .before .before .before .before .before .before .before .before .before .before .before .before .pre .0) (c .before .before .before .before .before .before .before .before .before .before .before .before .before .before .before .before .before .before .before .before .before .before .before .before .pre .1 .0) (c .before .before .before .before .before .before .receives-visit .ensures) .1, c .before .before .before .before .before .before .before .before .before .before .before .before .before .before .before .before .before .before .before .before .before .before .before .before .pre .1 .1))
+members-visit-requires-2 c κs =
+    let at-receives-visit = c .before .before .before .before .before .before in
+    let start-1 = at-receives-visit .before .before .before .before .before .before .before .before in
+    let start-2 = start-1 .before .before .before .before .before .before .before .before in
+    let start = start-2 .before .before in
+    let (ready, names) = still-ready _ _ (start .pre .0) (start .pre .1 .0) (at-receives-visit .receives-visit .ensures) in
+    (ready, (names, start .pre .1 .1))
 
 either-requires : tie.Need-either-requires
 either-requires c κs = search needs
@@ -61,7 +67,13 @@ same-length-5 : tie.Need-same-length-5
 same-length-5 c = search needs
 
 returns-3 : tie.Need-returns-3
-returns-3 c = rw (c .either .ensures) (grows-then _ (c .before .before .before .before .before .before .before .before .before .before .before .before .before .before .before .before .before .before .before .before .before .before .before .before .before .before .before .before .before .before .pre .0 .few) (c .before .before .before .before .before .before .before .before .before .before .before .before .receives-visit .ensures) (c .before .before .before .before .before .members-visit2 .ensures))
+returns-3 c =
+    let at-members-visit2 = c .before .before .before .before .before in
+    let at-receives-visit = at-members-visit2 .before .before .before .before .before .before .before in
+    let start-1 = at-receives-visit .before .before .before .before .before .before .before .before in
+    let start-2 = start-1 .before .before .before .before .before .before .before .before in
+    let start = start-2 .before .before in
+    rw (c .either .ensures) (grows-then _ (start .pre .0 .few) (at-receives-visit .receives-visit .ensures) (at-members-visit2 .members-visit2 .ensures))
 
 same-length-6 : tie.Need-same-length-6
 same-length-6 c = search needs
