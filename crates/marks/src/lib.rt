@@ -161,27 +161,6 @@ fn both(a: u8, b: u8) -> u8 {
     if a == 0 { 0 } else { b }
 }
 
-// Whether a member of name n's set is marked. Every member is looked at, so that the loop has no way out but its end.
-pub fn has_marked(store: &[u8], marks: &[u8], n: u8) -> bool {
-    let from = Store::FLOWS + n as usize * Store::MEMBERS;
-    if store.len() < from + Store::MEMBERS {
-        return false;
-    }
-    if marks.len() < SIZE {
-        return false;
-    }
-    let mut found = 0;
-    let mut i = 0;
-    while i < Store::MEMBERS {
-        let at = from + i;
-        let mark = MEMBERS + i;
-        let new = both(store[at], marks[mark]);
-        found = byte_order::larger(found, new);
-        i += 1;
-    }
-    0 < found
-}
-
 // Whether row r asks something anew of all members: the argument of an apply changed, or the result of a case's branch.
 pub fn asks_all(store: &[u8], names: &[u8], marks: &[u8], r: u8) -> bool {
     let kind = cell(store, r, 0);
@@ -200,25 +179,13 @@ pub fn asks_all(store: &[u8], names: &[u8], marks: &[u8], r: u8) -> bool {
     0 < byte_at(marks, right as usize)
 }
 
-// Whether row r may ask anything anew.
-pub fn asks_some(store: &[u8], marks: &[u8], r: u8) -> bool {
-    let watched = cell(store, r, 3);
-    if 0 < byte_at(marks, watched as usize) {
-        return true;
-    }
-    has_marked(store, marks, watched)
+// A mark of row k, if it is a receive as is asked, or none.
+fn mark_of(part: u8, receives: bool, mark: u8) -> u8 {
+    if (part == COMMS) == receives { mark } else { 0 }
 }
 
-// A mark of row k, if it is a receive.
-fn receive_mark(part: u8, mark: u8) -> u8 {
-    if part == COMMS { mark } else { 0 }
-}
-
-// Whether a sync at row r may ask anything anew of the receives in its set. Every member is looked at, so that the loop has no way out but its end.
-pub fn asks_receives(store: &[u8], marks: &[u8], parts: &[u8], r: u8) -> bool {
-    if cell(store, r, 0) != SYNC {
-        return false;
-    }
+// Whether row r may ask anything anew of the receives in its set, or of the other rows. Every row is looked at, so that the loop has no way out but its end.
+pub fn asks_some(store: &[u8], marks: &[u8], parts: &[u8], r: u8, receives: bool) -> bool {
     let watched = cell(store, r, 3) as usize;
     let from = Store::FLOWS + watched * Store::MEMBERS;
     if store.len() < from + Store::MEMBERS {
@@ -238,7 +205,7 @@ pub fn asks_receives(store: &[u8], marks: &[u8], parts: &[u8], r: u8) -> bool {
         let member = MEMBERS + 1 + k;
         let at = from + 1 + k;
         let mark = byte_order::larger(changed, marks[member]);
-        let new = both(store[at], receive_mark(parts[second], mark));
+        let new = both(store[at], mark_of(parts[second], receives, mark));
         found = byte_order::larger(found, new);
         k += 1;
     }

@@ -18,7 +18,7 @@ ghost use Rattle.set_adds.specs.Adding.{Adds};
 ghost use Rattle.send_adds.specs.Sends.{Ready};
 ghost use Rattle.rule_adds.specs.Rules.{askRule, memberRule, AskLow};
 
-// What a form asks of each row in its set: its kind, and the names whose sets it compares with that of the row.
+// What a form asks of each row in its set: its kind, and the names whose sets it compares with that of the row. Of a sync, what it sends; what it receives is asked of all rows together (recv_adds).
 pub enum Ask {
     Send,
     First,

@@ -110,7 +110,10 @@ fn receives_visit(store: &mut [u8], rows: u8, r: u8, parts: &[u8], marks: &mut [
     requires { ⌜ r < rows ⌝ }
     ensures { λ more. ⌜ Grows rows (now (store .entry)) (now (store .exit)) more ⌝ }
 {
-    if marks::asks_receives(store, marks, parts, r) {
+    if cell(store, r, 0) != marks::SYNC {
+        return false;
+    }
+    if marks::asks_some(store, marks, parts, r, true) {
         let more = receives_grow(store, rows, r);
         if more {
             marks::note(marks, parts, cell(store, r, 1));
@@ -145,6 +148,30 @@ fn members_visit(
     more
 }
 
+// The same, unless there is nothing new to ask of any.
+fn apart_visit(
+    store: &mut [u8],
+    rows: u8,
+    r: u8,
+    names: &[u8],
+    parts: &[u8],
+    marks: &mut [u8],
+) -> bool
+    requires { ⌜ Ready rows (now store) ⌝ }
+    requires { ⌜ Names (storeProgram rows (now store)) (now names) ⌝ }
+    requires { ⌜ r < rows ⌝ }
+    ensures { λ more. ⌜ Grows rows (now (store .entry)) (now (store .exit)) more ⌝ }
+{
+    let all = marks::asks_all(store, names, marks, r);
+    if all {
+        return members_visit(store, rows, r, names, parts, marks, all);
+    }
+    if marks::asks_some(store, marks, parts, r, false) {
+        return members_visit(store, rows, r, names, parts, marks, all);
+    }
+    false
+}
+
 // Adds what the rule of row r asks, unless there is nothing new to ask.
 pub fn visit(
     store: &mut [u8],
@@ -162,14 +189,7 @@ pub fn visit(
     if cell(store, r, 0) < marks::SYNC {
         return row_adds(store, rows, r, names);
     }
-    let all = marks::asks_all(store, names, marks, r);
-    if all {
-        return members_visit(store, rows, r, names, parts, marks, all);
-    }
-    if marks::asks_some(store, marks, r) {
-        let together = receives_visit(store, rows, r, parts, marks);
-        let apart = members_visit(store, rows, r, names, parts, marks, all);
-        return either(together, apart);
-    }
-    false
+    let together = receives_visit(store, rows, r, parts, marks);
+    let apart = apart_visit(store, rows, r, names, parts, marks);
+    either(together, apart)
 }

@@ -2,24 +2,18 @@
 use Prim.Native.Nat.{_≤_, _-_}
 use borrow.Author.Needs.{needs}
 use Rattle.format.specs.Limits.{rowLimit}
-use Rattle.marks.proofs.asks_receives.Statement.{statement}
-use Rattle.marks.proofs.asks_receives.Tie as tie
+use Rattle.marks.proofs.asks_some.Statement.{statement}
+use Rattle.marks.proofs.asks_some.Tie as tie
 
 abbrev Inv-loop : tie.InvT-loop
-Inv-loop store marks parts r watched from changed found₀ k₀ found k =
+Inv-loop store marks parts r receives watched from changed found₀ k₀ found k =
     k ≤ rowLimit
 
 abbrev μ-loop : tie.MeasureT-loop
-μ-loop store marks parts r watched from changed found₀ k₀ found k = rowLimit - k
+μ-loop store marks parts r receives watched from changed found₀ k₀ found k = rowLimit - k
 
 cell-requires : tie.Need-cell-requires Inv-loop μ-loop
 cell-requires c κs = search needs
-
-returns : tie.Need-returns Inv-loop μ-loop
-returns c = search needs
-
-cell-requires-2 : tie.Need-cell-requires-2 Inv-loop μ-loop
-cell-requires-2 c κs = search needs
 
 cast-watched : tie.Need-cast-watched Inv-loop μ-loop
 cast-watched c = search needs
@@ -30,17 +24,17 @@ mul-from c = search needs
 add-from : tie.Need-add-from Inv-loop μ-loop
 add-from c = search needs
 
-add-if2 : tie.Need-add-if2 Inv-loop μ-loop
-add-if2 c = search needs
+add-if1 : tie.Need-add-if1 Inv-loop μ-loop
+add-if1 c = search needs
+
+returns : tie.Need-returns Inv-loop μ-loop
+returns c = search needs
 
 returns-2 : tie.Need-returns-2 Inv-loop μ-loop
 returns-2 c = search needs
 
 returns-3 : tie.Need-returns-3 Inv-loop μ-loop
 returns-3 c = search needs
-
-returns-4 : tie.Need-returns-4 Inv-loop μ-loop
-returns-4 c = search needs
 
 byte-at-requires : tie.Need-byte-at-requires Inv-loop μ-loop
 byte-at-requires c κs = search needs
@@ -72,11 +66,11 @@ larger-requires c κs = search needs
 shared-slice-read-both : tie.Need-shared-slice-read-both Inv-loop μ-loop
 shared-slice-read-both c = search needs
 
-shared-slice-read-receive-mark : tie.Need-shared-slice-read-receive-mark Inv-loop μ-loop
-shared-slice-read-receive-mark c = search needs
+shared-slice-read-mark-of : tie.Need-shared-slice-read-mark-of Inv-loop μ-loop
+shared-slice-read-mark-of c = search needs
 
-receive-mark-requires : tie.Need-receive-mark-requires Inv-loop μ-loop
-receive-mark-requires c κs = search needs
+mark-of-requires : tie.Need-mark-of-requires Inv-loop μ-loop
+mark-of-requires c κs = search needs
 
 both-requires : tie.Need-both-requires Inv-loop μ-loop
 both-requires c κs = search needs
@@ -93,25 +87,23 @@ loop-less c = search needs
 loop-again : tie.Need-loop-again Inv-loop μ-loop
 loop-again c = search needs
 
-returns-5 : tie.Need-returns-5 Inv-loop μ-loop
-returns-5 c = search needs
+returns-4 : tie.Need-returns-4 Inv-loop μ-loop
+returns-4 c = search needs
 
-pub asks-receives-spec : {M : Type 1} → statement M
-asks-receives-spec =
+pub asks-some-spec : {M : Type 1} → statement M
+asks-some-spec =
     tie.close
     (tie.spec
     Inv-loop
     μ-loop
     cell-requires
-    returns
-    cell-requires-2
     cast-watched
     mul-from
     add-from
-    add-if2
+    add-if1
+    returns
     returns-2
     returns-3
-    returns-4
     byte-at-requires
     loop-holds
     add-second
@@ -122,11 +114,11 @@ asks-receives-spec =
     shared-slice-read-larger
     larger-requires
     shared-slice-read-both
-    shared-slice-read-receive-mark
-    receive-mark-requires
+    shared-slice-read-mark-of
+    mark-of-requires
     both-requires
     larger-requires-2
     add-k
     loop-less
     loop-again
-    returns-5)
+    returns-4)
