@@ -5,13 +5,12 @@ use native.Mathlib.Numerals.{add-one}
 use mathlib.Core.Bool.{Bool, true, false, _&&_, So, and-false}
 use mathlib.Core.Logic.{_↔_, Iff·rfl}
 use mathlib.Core.Option.{none, some}
-use mathlib.Core.Path.{_≡_, refl, sym, _∙_, subst}
+use mathlib.Core.Path.{_≡_, refl, _∙_}
 use lib.Dec.{ltb}
 use lib.ListN.{length}
 use Rattle.program.specs.declared.Form.{Form}
 use Rattle.program.specs.declared.Form.the-variants.{Chan, Recv, Sync}
-use Rattle.program.specs.Maybe.{when, has}
-use Rattle.program.specs.Test.{any}
+use Rattle.program.specs.Maybe.{has}
 use Rattle.program.specs.Program.{Program, rowAt, recvOf, isChan, chanAt, chanRow, recvAt}
 use Rattle.program.specs.Flow.{Abstract, row, Set, Table, lies, forEach, forEachChan, sendRule, recvRule, keepsForm}
 use Rattle.program.specs.FlowRule.{ForEach, ForEachChan, Lies}
@@ -27,7 +26,7 @@ use Rattle.store.proofs.Laws.{program-length}
 use Rattle.tables.specs.Tables.{storeFlow, storeComm}
 use Rattle.forms.specs.Forms.{formIn}
 use Rattle.forms.proofs.Forms.{recv-at, chan-row}
-use Rattle.sets.specs.Sets.{setOf, liesBelow}
+use Rattle.sets.specs.Sets.{setOf}
 use Rattle.sets.proofs.Tests.{implies-and, all-and}
 use Rattle.sets.proofs.Members.{lies-at, set-full}
 use Rattle.set_adds.specs.Adding.{Inside, Adds}

@@ -1,5 +1,5 @@
 -- The channels that receives listen to and what they hold, each gathered in one set of bytes; and the rule of a sync's receives.
-use Prim.Native.Nat.{ℕ, _<_}
+use Prim.Native.Nat.{ℕ, _+_, _<_, _≤_}
 use mathlib.Core.Bool.{_&&_, _||_}
 use mathlib.Core.Path.{_≡_}
 use lib.ListN.{length}
@@ -24,6 +24,10 @@ pub record Gathered (n : ℕ) (f : ℕ → Set) (s : Bytes) : Type 0 where
   pub size : length s ≡ memberLimit
   pub low : (i : ℕ) → byteAt s i < 2
   pub members : (a : Abstract) → member a < memberLimit → setOf s a ≡ any n (λ i. f i a)
+
+-- none of so many rows from row k on is in a set of bytes
+unfoldable pub Free : Bytes → ℕ → ℕ → Type 0
+Free s k n = (r : ℕ) → k ≤ r → r < k + n → byteAt s (r + 1) ≡ 0
 
 -- a member of the set of row k's C, if it is a recv row in the set of name e
 unfoldable pub hears : Program → Table → ℕ → ℕ → Set

@@ -8,6 +8,8 @@ use sets::comm_set;
 use sets::flow_set;
 use store::Store;
 use tables::flow_has;
+ghost use mathlib.Core.Bool.{true};
+ghost use mathlib.Core.Path.{_≡_};
 ghost use Prim.Native.Nat.{_<_, _≤_};
 ghost use lib.ListN.{length};
 ghost use Rattle.format.specs.Limits.{rowLimit};
@@ -16,7 +18,7 @@ ghost use Rattle.store.specs.Rows.{storeProgram};
 ghost use Rattle.tables.specs.Tables.{storeFlow, storeComm};
 ghost use Rattle.sets.specs.Sets.{Sized, setOf};
 ghost use Rattle.set_adds.specs.Adding.{Adds};
-ghost use Rattle.recv_adds.specs.Received.{Takes, Gathered, hears, gives, recvsRule};
+ghost use Rattle.recv_adds.specs.Received.{Takes, Gathered, Free, hears, gives, recvsRule};
 
 // Joins a set to another, as bytes of 0 and 1.
 fn join(set: &mut [u8], other: &[u8])
@@ -33,6 +35,32 @@ fn join(set: &mut [u8], other: &[u8])
         set[i] = larger(own, new);
         i += 1;
     }
+}
+
+// So many rows are passed over at once where none of them is in a set.
+const BLOCK: u8 = 16;
+
+// Whether a block begins at row k and none of its rows is in a set. Every row is looked at, so that the loop has no way out but its end.
+fn block_free(set: &[u8], k: u8) -> bool
+    requires { ⌜ k < rowLimit ⌝ }
+    ensures { λ b. ⌜ (b ≡ true → Free (now (set .entry)) k 16) ⌝ }
+{
+    if k % BLOCK != 0 {
+        return false;
+    }
+    let from = k as usize + 1;
+    let rows = BLOCK as usize;
+    if set.len() < from + rows {
+        return false;
+    }
+    let mut found = 0;
+    let mut i = 0;
+    while i < rows {
+        let at = from + i;
+        found = larger(found, set[at]);
+        i += 1;
+    }
+    found == 0
 }
 
 // Joins the channels of row k, if it is a recv row in the set of name e.
@@ -54,11 +82,16 @@ fn heard(store: &[u8], rows: u8, e: u8) -> [u8; Store::MEMBERS]
     requires { ⌜ Sized rows (now store) ⌝ }
     ensures { λ set. ⌜ (let bytes = now (store .entry) in Gathered rows (hears (storeProgram rows bytes) (storeFlow bytes) e) set) ⌝ }
 {
+    let events = flow_set(store, e);
     let mut set = [0u8; Store::MEMBERS];
     let mut k = 0;
     while k < rows {
-        hear_row(store, rows, e, k, &mut set);
-        k += 1;
+        if block_free(events, k) {
+            k = smaller(k + BLOCK, rows);
+        } else {
+            hear_row(store, rows, e, k, &mut set);
+            k += 1;
+        }
     }
     set
 }
@@ -86,8 +119,12 @@ fn held(store: &[u8], rows: u8, channels: &[u8]) -> [u8; Store::MEMBERS]
     let mut set = [0u8; Store::MEMBERS];
     let mut k = 0;
     while k < rows {
-        give_row(store, rows, channels, k, &mut set);
-        k += 1;
+        if block_free(channels, k) {
+            k = smaller(k + BLOCK, rows);
+        } else {
+            give_row(store, rows, channels, k, &mut set);
+            k += 1;
+        }
     }
     set
 }

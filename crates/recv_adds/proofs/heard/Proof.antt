@@ -1,27 +1,54 @@
 -- `heard` meets its contract. The loop's invariant: what the rows below k have is gathered. The measure is the number of rows left.
 use Prim.Native.Nat.{_≤_, _-_}
 use native.Mathlib.Omega.{arith}
-use mathlib.Core.Path.{_≡_, sym}
+use mathlib.Core.Path.{_≡_, sym, ap, _∙_}
 use borrow.Author.Needs.{needs}
+use Rattle.program.specs.Flow.{row, Set}
 use Rattle.store.specs.Rows.{storeProgram}
 use Rattle.tables.specs.Tables.{storeFlow}
 use Rattle.recv_adds.specs.Received.{Gathered, hears}
-use Rattle.recv_adds.proofs.Gathering.{gathered-none, gathered-more}
+use Rattle.recv_adds.proofs.Gathering.{gathered-none, gathered-more, gathered-block, free-row}
+use Rattle.recv_adds.proofs.Receiving.{hears-other}
 use Rattle.recv_adds.proofs.heard.Statement.{statement}
 use Rattle.recv_adds.proofs.heard.Tie as tie
 
 abbrev Inv-loop : tie.InvT-loop
-Inv-loop store rows e set₀ k₀ set k =
+Inv-loop store rows e events set₀ k₀ set k =
     (k ≤ rows) × Gathered k (hears (storeProgram rows store) (storeFlow store) e) set
 
 abbrev μ-loop : tie.MeasureT-loop
-μ-loop store rows e set₀ k₀ set k = rows - k
+μ-loop store rows e events set₀ k₀ set k = rows - k
+
+flow-set-requires : tie.Need-flow-set-requires Inv-loop μ-loop
+flow-set-requires c κs = search needs
 
 loop-holds : tie.Need-loop-holds Inv-loop μ-loop
 loop-holds c = (omega arith, gathered-none _)
 
+block-free-requires : tie.Need-block-free-requires Inv-loop μ-loop
+block-free-requires c κs = search needs
+
+add-smaller : tie.Need-add-smaller Inv-loop μ-loop
+add-smaller c = search needs
+
+smaller-requires : tie.Need-smaller-requires Inv-loop μ-loop
+smaller-requires c κs = search needs
+
+loop-less : tie.Need-loop-less Inv-loop μ-loop
+loop-less c = search needs
+
+loop-again : tie.Need-loop-again Inv-loop μ-loop
+loop-again c =
+    let at-loop = c .before .before .before .before in
+    let free = c .before .before .block-free .ensures (c .before .if1 .taken) in (
+      omega (arith, c .smaller .ensures),
+      rw (c .smaller .ensures)
+          (gathered-block 16 _ (at-loop .loop .inv .0) (at-loop .loop .inv .1) λ i l m.
+          hears-other _ _ i _ (sym (ap (λ (t : Set). t (row i)) (at-loop .before .flow-set .ensures)) ∙ free-row _ _ 16 free i l m)),
+    )
+
 slice-aggregate-hear-row : tie.Need-slice-aggregate-hear-row Inv-loop μ-loop
-slice-aggregate-hear-row c = sym (c .before .before .loop .inv .1 .size)
+slice-aggregate-hear-row c = sym (c .before .before .before .before .loop .inv .1 .size)
 
 hear-row-requires : tie.Need-hear-row-requires Inv-loop μ-loop
 hear-row-requires c κs = search needs
@@ -29,14 +56,16 @@ hear-row-requires c κs = search needs
 add-k : tie.Need-add-k Inv-loop μ-loop
 add-k c = search needs
 
-loop-less : tie.Need-loop-less Inv-loop μ-loop
-loop-less c = search needs
+loop-less-2 : tie.Need-loop-less-2 Inv-loop μ-loop
+loop-less-2 c = search needs
 
-loop-again : tie.Need-loop-again Inv-loop μ-loop
-loop-again c = (omega arith, gathered-more (c .before .before .before .before .loop .inv .1) (c .before .hear-row .ensures))
+loop-again-2 : tie.Need-loop-again-2 Inv-loop μ-loop
+loop-again-2 c =
+    let at-loop = c .before .before .before .before .before .before in
+    (omega arith, gathered-more (at-loop .loop .inv .1) (c .before .hear-row .ensures))
 
 returns : tie.Need-returns Inv-loop μ-loop
-returns c = let q : c .before .loop .k ≡ c .before .before .before .args .rows = omega arith in rw q at (c .before .loop .inv .1)
+returns c = let q : c .before .loop .k ≡ c .before .before .before .before .args .rows = omega arith in rw q at (c .before .loop .inv .1)
 
 pub heard-spec : {M : Type 1} → statement M
 heard-spec =
@@ -44,10 +73,16 @@ heard-spec =
     (tie.spec
     Inv-loop
     μ-loop
+    flow-set-requires
     loop-holds
+    block-free-requires
+    add-smaller
+    smaller-requires
+    loop-less
+    loop-again
     slice-aggregate-hear-row
     hear-row-requires
     add-k
-    loop-less
-    loop-again
+    loop-less-2
+    loop-again-2
     returns)
