@@ -4,12 +4,14 @@
 use crate::reference::document::{Bind, Branch, Document, Form, Name, Row};
 
 /// The hardest of each kind that has no more than 160 rows and names.
-pub fn hardest() -> [(&'static str, Document); 6] {
+pub fn hardest() -> [(&'static str, Document); 8] {
     [
         ("a round for each row", unwinding(152, 0)),
         ("most rounds", unwinding(77, 25)),
         ("52 syncs share sets", sharing(25, 52, 52)),
+        ("57 syncs share 95 sends", sharing(1, 95, 57)),
         ("42 syncs hear 20 receives", hearing(12, 20, 40, 42)),
+        ("74 syncs hear 73 sends", hearing(1, 1, 73, 74)),
         ("longest outcome", sharing(76, 1, 1)),
         ("functions take functions", takers(32)),
     ]
