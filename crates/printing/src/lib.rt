@@ -5,11 +5,17 @@ use calls::VerdictAnswer;
 use calls::VerdictStatus;
 use calls::WriteAnswer;
 use format::Refusal;
+use write_text::put_argument;
 
-// Prints a number behind a space.
+// Prints a number behind a space, written as files and reports have it. What is answered has 16 bits, but for the length of a text that is too long for a file.
 fn print_number(n: usize) {
-    io::write_all(1, b" ");
-    io::print_decimal(1, n as u64);
+    if n > 65535 {
+        io::write_all(1, b" over 65535");
+        return;
+    }
+    let mut text = [0; 6];
+    let end = put_argument(&mut text, 0, n as u16);
+    io::write_all(1, &text[..end]);
 }
 
 // A refusal, as a report has it.

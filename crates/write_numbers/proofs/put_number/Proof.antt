@@ -1,38 +1,40 @@
--- The five writes, one after the other, are the five parts of `digits`. Each has room in what the ones before it leave.
+-- The five writes, one after the other, are the five parts of `digits`, and each has room in what the ones before it leave. Each place is counted off what the one above it leaves.
 use native.Mathlib.Omega.{arith}
-use borrow.Author.Needs.{needs}
 use Rattle.format.specs.Text.{digits}
 use Rattle.write_bytes.proofs.Writing.{then, room-first, room-then}
+use borrow.Author.Needs.{needs}
 use Rattle.write_numbers.proofs.put_number.Statement.{statement}
 use Rattle.write_numbers.proofs.put_number.Tie as tie
 
 put-place-requires : tie.Need-put-place-requires
 unfolding digits
-put-place-requires c κs = (omega arith, room-first _ _ (c .before .before .pre))
+put-place-requires c κs =
+    let start = c .before .before in
+    (omega arith, (omega arith, (omega arith, room-first _ _ (start .pre))))
 
 put-place-requires-2 : tie.Need-put-place-requires-2
 unfolding digits
-put-place-requires-2 c κs = (omega arith, room-first _ _ (room-then _ (c .before .before .before .put-place .ensures) (c .before .before .before .before .before .before .pre)))
+put-place-requires-2 c κs =
+    let at-myriads = c .before .before .before in
+    let start = at-myriads .before .before .before in
+    (omega arith, (omega arith, (at-myriads .put-place .ensures .1, room-first _ _ (room-then _ (at-myriads .put-place .ensures .0) (start .pre)))))
 
 put-place-requires-3 : tie.Need-put-place-requires-3
 unfolding digits
 put-place-requires-3 c κs =
-    let past8 = c .before .before .before .before .before .before .before .before in (
-      omega arith,
-      room-first _ _ (room-then _ (c .before .before .before .put-place2 .ensures)
-          (room-then _ (c .before .before .before .before .before .before .before .put-place .ensures) (past8 .before .before .pre))),
-    )
+    let at-thousands = c .before .before .before in
+    let at-myriads = at-thousands .before .before .before .before in
+    let start = at-myriads .before .before .before in
+    (omega arith, (omega arith, (at-thousands .put-place2 .ensures .1, room-first _ _ (room-then _ (at-thousands .put-place2 .ensures .0) (room-then _ (at-myriads .put-place .ensures .0) (start .pre))))))
 
 put-place-requires-4 : tie.Need-put-place-requires-4
 unfolding digits
 put-place-requires-4 c κs =
-    let past8 = c .before .before .before .before .before .before .before .before in (
-      omega arith,
-      room-first _ _ (room-then _ (c .before .before .before .put-place3 .ensures)
-          (room-then _ (c .before .before .before .before .before .before .before .put-place2 .ensures)
-          (room-then _ (past8 .before .before .before .put-place .ensures)
-          (past8 .before .before .before .before .before .before .pre)))),
-    )
+    let at-hundreds = c .before .before .before in
+    let at-thousands = at-hundreds .before .before .before .before in
+    let at-myriads = at-thousands .before .before .before .before in
+    let start = at-myriads .before .before .before in
+    (omega arith, (omega arith, (at-hundreds .put-place3 .ensures .1, room-first _ _ (room-then _ (at-hundreds .put-place3 .ensures .0) (room-then _ (at-thousands .put-place2 .ensures .0) (room-then _ (at-myriads .put-place .ensures .0) (start .pre)))))))
 
 add-unit : tie.Need-add-unit
 add-unit c = search needs
@@ -43,13 +45,13 @@ cast-unit c = search needs
 put-byte-requires : tie.Need-put-byte-requires
 unfolding digits
 put-byte-requires c κs =
-    let past8 = c .before .before .before .before .before .before .before .before in
-    let past16 = past8 .before .before .before .before .before .before .before .before in
-    room-then _ (c .before .before .before .put-place4 .ensures)
-    (room-then _ (c .before .before .before .before .before .before .before .put-place3 .ensures)
-    (room-then _ (past8 .before .before .before .put-place2 .ensures)
-    (room-then _ (past8 .before .before .before .before .before .before .before .put-place .ensures)
-    (past16 .before .before .pre))))
+    let at-tens = c .before .before .before .before in
+    let at-hundreds = at-tens .before .before .before .before in
+    let at-thousands = at-hundreds .before .before .before .before in
+    let at-myriads = at-thousands .before .before .before .before in
+    let start = at-myriads .before .before .before in
+    let after-tens = room-then _ (at-tens .put-place4 .ensures .0) (room-then _ (at-hundreds .put-place3 .ensures .0) (room-then _ (at-thousands .put-place2 .ensures .0) (room-then _ (at-myriads .put-place .ensures .0) (start .pre)))) in
+    record { room = omega (arith, after-tens .room, at-tens .put-place4 .ensures .0 .next-is) }
 
 same-length : tie.Need-same-length
 same-length c = search needs
@@ -57,12 +59,15 @@ same-length c = search needs
 returns : tie.Need-returns
 unfolding digits
 returns c =
-    let past8 = c .before .before .before .before .before .before .before .before in
-    let past16 = past8 .before .before .before .before .before .before .before .before in
-    then (past16 .before .before .put-place .ensures)
-    (then (past8 .before .before .before .before .before .before .put-place2 .ensures)
-    (then (past8 .before .before .put-place3 .ensures)
-    (then (c .before .before .before .before .before .before .put-place4 .ensures) (c .before .before .put-byte .ensures))))
+    let at-put-byte = c .before .before in
+    let at-tens = at-put-byte .before .before .before .before .before in
+    let at-hundreds = at-tens .before .before .before .before in
+    let at-thousands = at-hundreds .before .before .before .before in
+    let at-myriads = at-thousands .before .before .before .before in
+    then (at-myriads .put-place .ensures .0)
+    (then (at-thousands .put-place2 .ensures .0)
+    (then (at-hundreds .put-place3 .ensures .0)
+    (then (at-tens .put-place4 .ensures .0) (rw (← (at-tens .put-place4 .ensures .1)) (at-put-byte .put-byte .ensures)))))
 
 pub put-number-spec : {M : Type 1} → statement M
 put-number-spec =

@@ -1,0 +1,2 @@
+-- What counting off leaves.
+pub mod Counting

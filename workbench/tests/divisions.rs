@@ -1,0 +1,115 @@
+//! The compiled code does not divide: the number writer counts its digits off by
+//! subtraction, and the compiler has not made a division of it again, nor a
+//! multiplication that stands in for one. The writer is also part of the code
+//! that calls it, so all of the library and of the programs is looked at.
+
+use std::path::{Path, PathBuf};
+use std::process::Command;
+
+use workbench::layout::LIMIT;
+
+/// What the sources multiply by and the compiler leaves a multiplication: the
+/// bytes of a set, for its place in a store, and the hundreds of a number read.
+const FACTORS: [u64; 2] = [LIMIT as u64 + 1, 100];
+
+/// A file below the repository's `target`.
+fn built(name: &str) -> PathBuf {
+    Path::new(env!("CARGO_MANIFEST_DIR"))
+        .join("../target")
+        .join(name)
+}
+
+fn disassemble(file: &Path) -> String {
+    let output = Command::new("objdump")
+        .args(["--disassemble", "--no-show-raw-insn"])
+        .arg(file)
+        .output()
+        .expect("objdump, which comes with gcc");
+    assert!(output.status.success(), "objdump of {}", file.display());
+    String::from_utf8(output.stdout).unwrap()
+}
+
+/// The factor of a multiplication by a constant, as in `imul $0x64,%eax,%eax`.
+fn factor(operands: &str) -> Option<u64> {
+    let constant = operands.strip_prefix("$0x")?.split(',').next()?;
+    u64::from_str_radix(constant, 16).ok()
+}
+
+/// Each instruction that divides, or multiplies by what is not among the
+/// factors, behind the name of its function.
+fn divisions(disassembly: &str) -> Vec<String> {
+    let mut found = Vec::new();
+    let mut function = "";
+    for line in disassembly.lines() {
+        if let Some(name) = line.strip_suffix(">:") {
+            function = name.split_once('<').map_or(name, |(_, name)| name);
+            continue;
+        }
+        let Some((_, instruction)) = line.split_once(":\t") else {
+            continue;
+        };
+        let (name, operands) = instruction.split_once(' ').unwrap_or((instruction, ""));
+        let allowed = factor(operands.trim()).is_some_and(|factor| FACTORS.contains(&factor));
+        if name.contains("div") || name.contains("mul") && !allowed {
+            found.push(format!("{function}: {instruction}"));
+        }
+    }
+    found
+}
+
+/// The disassembly has the function, and nothing in it divides.
+fn assert_none(file: &Path, function: &str) {
+    let disassembly = disassemble(file);
+    assert!(
+        disassembly.contains(&format!("<{function}>:\n")),
+        "{} has no code of {function}",
+        file.display()
+    );
+    let found = divisions(&disassembly);
+    assert!(found.is_empty(), "{}: {found:#?}", file.display());
+}
+
+#[test]
+fn library_has_no_division() {
+    assert_none(&built("staticlib/libdispenser_c.a"), "dispenser_write");
+}
+
+#[test]
+fn programs_have_no_division() {
+    assert!(
+        built("bin/dispenser").is_file(),
+        "the program is missing: run `rt check dispenser` at the repository's root"
+    );
+    for program in std::fs::read_dir(built("bin")).unwrap() {
+        assert_none(&program.unwrap().path(), "main");
+    }
+}
+
+/// What a C compiler makes of divisions is found, and what is no division is not.
+#[test]
+fn divisions_are_found() {
+    let folder = Path::new(env!("CARGO_TARGET_TMPDIR"));
+    let source = folder.join("divisions.c");
+    let object = folder.join("divisions.o");
+    let code = "
+        unsigned short tens(unsigned short n) { return n / 10 % 10; }
+        unsigned hundreds(unsigned n) { return n / 100; }
+        unsigned long thousands(unsigned long n) { return n / 1000; }
+        unsigned ratio(unsigned a, unsigned b) { return a / b; }
+        unsigned long set(unsigned long n) { return n * 161; }
+        unsigned read(unsigned a, unsigned b) { return a * 100 + b; }
+    ";
+    std::fs::write(&source, code).unwrap();
+    let compiled = Command::new("gcc")
+        .args(["-O2", "-c", "-o"])
+        .args([&object, &source])
+        .status()
+        .expect("gcc");
+    assert!(compiled.success());
+    let mut functions: Vec<String> = divisions(&disassemble(&object))
+        .iter()
+        .map(|found| found.split(':').next().unwrap().to_string())
+        .collect();
+    functions.dedup();
+    assert_eq!(functions, ["tens", "hundreds", "thousands", "ratio"]);
+}
