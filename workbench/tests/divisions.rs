@@ -1,7 +1,8 @@
 //! The compiled code does not divide: the number writer counts its digits off by
 //! subtraction, and the compiler has not made a division of it again, nor a
-//! multiplication that stands in for one. The writer is also part of the code
-//! that calls it, so all of the library and of the programs is looked at.
+//! multiplication by a reciprocal, with a shift behind it. The writer is also part
+//! of the code that calls it, so all of the library and of the programs is looked
+//! at; for shifts, which others have, the functions that write numbers.
 
 use std::path::{Path, PathBuf};
 use std::process::Command;
@@ -11,6 +12,9 @@ use workbench::layout::LIMIT;
 /// What the sources multiply by and the compiler leaves a multiplication: the
 /// bytes of a set, for its place in a store, and the hundreds of a number read.
 const FACTORS: [u64; 2] = [LIMIT as u64 + 1, 100];
+
+/// The crates that write numbers and have functions of their own as compiled.
+const WRITERS: [&str; 3] = ["write_numbers::", "write_text::", "report_lines::"];
 
 /// A file below the repository's `target`.
 fn built(name: &str) -> PathBuf {
@@ -35,8 +39,12 @@ fn factor(operands: &str) -> Option<u64> {
     u64::from_str_radix(constant, 16).ok()
 }
 
-/// Each instruction that divides, or multiplies by what is not among the
-/// factors, behind the name of its function.
+fn writes_numbers(function: &str) -> bool {
+    WRITERS.iter().any(|name| function.starts_with(name))
+}
+
+/// Each instruction that divides, multiplies by what is not among the factors or,
+/// where numbers are written, shifts to the right; behind its function's name.
 fn divisions(disassembly: &str) -> Vec<String> {
     let mut found = Vec::new();
     let mut function = "";
@@ -50,19 +58,27 @@ fn divisions(disassembly: &str) -> Vec<String> {
         };
         let (name, operands) = instruction.split_once(' ').unwrap_or((instruction, ""));
         let allowed = factor(operands.trim()).is_some_and(|factor| FACTORS.contains(&factor));
-        if name.contains("div") || name.contains("mul") && !allowed {
+        let shifts = ["shr", "sar", "psrl", "psra"]
+            .iter()
+            .any(|&shift| name.contains(shift));
+        if name.contains("div")
+            || name.contains("mul") && !allowed
+            || shifts && writes_numbers(function)
+        {
             found.push(format!("{function}: {instruction}"));
         }
     }
     found
 }
 
-/// The disassembly has the function, and nothing in it divides.
-fn assert_none(file: &Path, function: &str) {
+/// A function that writes numbers is there, and nothing divides.
+fn assert_none(file: &Path) {
     let disassembly = disassemble(file);
     assert!(
-        disassembly.contains(&format!("<{function}>:\n")),
-        "{} has no code of {function}",
+        WRITERS
+            .iter()
+            .any(|name| disassembly.contains(&format!("<{name}"))),
+        "{} writes no numbers",
         file.display()
     );
     let found = divisions(&disassembly);
@@ -71,7 +87,7 @@ fn assert_none(file: &Path, function: &str) {
 
 #[test]
 fn library_has_no_division() {
-    assert_none(&built("staticlib/libdispenser_c.a"), "dispenser_write");
+    assert_none(&built("staticlib/libdispenser_c.a"));
 }
 
 #[test]
@@ -81,7 +97,7 @@ fn programs_have_no_division() {
         "the program is missing: run `rt check dispenser` at the repository's root"
     );
     for program in std::fs::read_dir(built("bin")).unwrap() {
-        assert_none(&program.unwrap().path(), "main");
+        assert_none(&program.unwrap().path());
     }
 }
 
@@ -112,4 +128,13 @@ fn divisions_are_found() {
         .collect();
     functions.dedup();
     assert_eq!(functions, ["tens", "hundreds", "thousands", "ratio"]);
+}
+
+/// A shift to the right is found where numbers are written, and only there.
+#[test]
+fn shifts_of_the_writer_are_found() {
+    let code = |function: &str| format!("0000 <{function}>:\n   3:\tshr    $0x13,%eax\n");
+    assert_eq!(divisions(&code("write_text::put_argument")).len(), 1);
+    assert_eq!(divisions(&code("report_lines::put_refused")).len(), 1);
+    assert!(divisions(&code("opening::open")).is_empty());
 }

@@ -25,7 +25,8 @@ put-place-requires-3 c κs =
     let at-thousands = c .before .before .before in
     let at-myriads = at-thousands .before .before .before .before in
     let start = at-myriads .before .before .before in
-    (omega arith, (omega arith, (at-thousands .put-place2 .ensures .1, room-first _ _ (room-then _ (at-thousands .put-place2 .ensures .0) (room-then _ (at-myriads .put-place .ensures .0) (start .pre))))))
+    let after-thousands = room-then _ (at-thousands .put-place2 .ensures .0) (room-then _ (at-myriads .put-place .ensures .0) (start .pre)) in
+    (omega arith, (omega arith, (at-thousands .put-place2 .ensures .1, room-first _ _ after-thousands)))
 
 put-place-requires-4 : tie.Need-put-place-requires-4
 unfolding digits
@@ -34,7 +35,8 @@ put-place-requires-4 c κs =
     let at-thousands = at-hundreds .before .before .before .before in
     let at-myriads = at-thousands .before .before .before .before in
     let start = at-myriads .before .before .before in
-    (omega arith, (omega arith, (at-hundreds .put-place3 .ensures .1, room-first _ _ (room-then _ (at-hundreds .put-place3 .ensures .0) (room-then _ (at-thousands .put-place2 .ensures .0) (room-then _ (at-myriads .put-place .ensures .0) (start .pre)))))))
+    let after-thousands = room-then _ (at-thousands .put-place2 .ensures .0) (room-then _ (at-myriads .put-place .ensures .0) (start .pre)) in
+    (omega arith, (omega arith, (at-hundreds .put-place3 .ensures .1, room-first _ _ (room-then _ (at-hundreds .put-place3 .ensures .0) after-thousands))))
 
 add-unit : tie.Need-add-unit
 add-unit c = search needs
@@ -50,7 +52,8 @@ put-byte-requires c κs =
     let at-thousands = at-hundreds .before .before .before .before in
     let at-myriads = at-thousands .before .before .before .before in
     let start = at-myriads .before .before .before in
-    let after-tens = room-then _ (at-tens .put-place4 .ensures .0) (room-then _ (at-hundreds .put-place3 .ensures .0) (room-then _ (at-thousands .put-place2 .ensures .0) (room-then _ (at-myriads .put-place .ensures .0) (start .pre)))) in
+    let after-thousands = room-then _ (at-thousands .put-place2 .ensures .0) (room-then _ (at-myriads .put-place .ensures .0) (start .pre)) in
+    let after-tens = room-then _ (at-tens .put-place4 .ensures .0) (room-then _ (at-hundreds .put-place3 .ensures .0) after-thousands) in
     record { room = omega (arith, after-tens .room, at-tens .put-place4 .ensures .0 .next-is) }
 
 same-length : tie.Need-same-length
