@@ -1,0 +1,2 @@
+-- Laws of look-ups.
+pub mod Cells

@@ -1,0 +1,19 @@
+-- What a look-up finds, as the enums of the code have it.
+use Prim.Native.Nat.{ℕ}
+use mathlib.Core.Option.{Option, none, some}
+use Rattle.machine.specs.declared.Held.{Held}
+use Rattle.lookups.specs.declared.Found.{Found}
+use Rattle.lookups.specs.declared.ClosureFound.{ClosureFound}
+use Rattle.lookups.specs.declared.ChannelFound.{ChannelFound}
+
+abbrev pub heldIn : Found → Option Held
+heldIn Found.Nothing = none
+heldIn (Found.Value h) = some h
+
+abbrev pub closureIn : ClosureFound → Option (ℕ × ℕ)
+closureIn ClosureFound.Nothing = none
+closureIn (ClosureFound.Closure r k) = some (r, k)
+
+abbrev pub channelIn : ChannelFound → Option ℕ
+channelIn ChannelFound.Nothing = none
+channelIn (ChannelFound.Channel k) = some k

@@ -1,0 +1,2 @@
+-- What a look-up answers.
+pub mod Found

@@ -1,0 +1,214 @@
+-- A watched run stands for the pool that the steps of its accepted moves leave.
+use Prim.Native.Nat.{ℕ, zero, suc, _≤_, _<_}
+use native.Mathlib.Omega.{arith}
+use mathlib.Core.Bool.{Bool, true, false, So}
+use mathlib.Core.List.{List, [], _∷_, _++_}
+use mathlib.Core.Option.{Option, none, some}
+use mathlib.Core.Path.{_≡_, refl, sym, _∙_, ap, subst}
+use lib.ListN.{length}
+use Rattle.program.specs.declared.Word.{Word}
+use Rattle.program.specs.Flow.{Table, keepsAll}
+use Rattle.program.specs.History.{HistoryFits}
+use Rattle.program.specs.Maybe.{_>>=_, given}
+use Rattle.program.specs.Program.{Program, chanAt}
+use Rattle.program.specs.Run.{Path, sameLabel, made, empty, State, Thread, Pool, Step, own, meet, stateOf, leaf, leafState, added, step, after, startPool, run}
+use Rattle.program.specs.Snoc.{Snoc, ε, continues?}
+use Rattle.program.specs.Each.{every}
+use Rattle.program.specs.Test.{pick, test}
+use Rattle.program.specs.Walk.{CanShare, Holds, sendPlace, receivePlace}
+use Rattle.program.proofs.Sound.Histories.{claims-hold}
+use Rattle.program.proofs.Maybe.{bind-elim}
+use Rattle.program.proofs.WellFormed.{WellFormed}
+use Rattle.machine.specs.declared.ThreadRecord.{ThreadRecord}
+use Rattle.machine.specs.Machine.{Machine, threadAt, begin, Order, alone, together, moved, within, Answer, refused, accepted, answer, left, watched}
+use Rattle.machine.proofs.Flat.{flat, flat-moved}
+use Rattle.machine.proofs.Like.{Like, neither, both}
+use Rattle.machine.proofs.Meaning.{ownAt, envAt, returnsAt, stateIn, ThreadIn}
+use Rattle.machine.proofs.Changes.{Marks, memoryOf, Meant}
+use Rattle.machine.proofs.Leaves.{samePath, no-some, leaf-state}
+use Rattle.machine.proofs.Lined.{Lined}
+use Rattle.machine.proofs.Stands.{Stands, states, same-some, own-like}
+use Rattle.machine.proofs.Meetings.{meet-like}
+
+-- ---- the beginning
+
+-- thread 0 is on the empty path
+unfoldable pub firstPath : ℕ → Path
+firstPath n = ε
+
+abbrev firstThread : ThreadRecord
+firstThread = record { row = 0; cell = 0; frame = 0 }
+
+abbrev firstState : State
+firstState = record { row = 0; env = empty; returns = [] }
+
+abbrev noMarks : Marks
+noMarks = record { cells = []; frames = [] }
+
+start-leaf : (p : Program) (x : Path) (s : State) → stateOf (startPool p) x ≡ some s → (ε ≡ x) × (firstState ≡ s)
+unfolding startPool stateOf
+start-leaf p x s e = go (samePath ε x) e
+  where
+    go : (d : Dec (ε ≡ x)) → elim d [ yes e ↦ some firstState | no n ↦ none ] ≡ some s → (ε ≡ x) × (firstState ≡ s)
+    go (yes q) e = (q, same-some e)
+    go (no n) e = no-some {o = none} refl e
+
+start-state : (p : Program) → leafState (startPool p) ε ≡ some firstState
+unfolding startPool leafState stateOf leaf _>>=_ given every test continues?
+start-state p = refl
+
+first-thread : (n : ℕ) (t : ThreadRecord) → threadAt (firstThread ∷ []) n ≡ some t → (n ≡ 0) × (firstThread ≡ t)
+unfolding threadAt
+first-thread zero t e = (refl, same-some e)
+first-thread (suc n) t e = no-some {o = none} refl e
+
+first-state : (n : ℕ) (s : State) → states noMarks (firstThread ∷ []) n ≡ some s → (n ≡ 0) × (firstState ≡ s)
+unfolding states threadAt stateIn envAt returnsAt _>>=_
+first-state zero s e = (refl, same-some e)
+first-state (suc n) s e = no-some {o = none} refl e
+
+first-is : states noMarks (firstThread ∷ []) 0 ≡ some firstState
+unfolding states threadAt stateIn envAt returnsAt _>>=_
+first-is = refl
+
+pub begin-stands : (p : Program) → Stands begin (startPool p) firstPath
+unfolding begin firstPath ownAt
+begin-stands p = record {
+  marks = noMarks;
+  same = refl;
+  meant = record { cells = tt; frames = tt };
+  inside = λ n t e. subst (ThreadIn [] []) (first-thread n t e .1) (record { cell = omega arith; frame = omega arith });
+  lined = record {
+    each = λ n s e. start-state p ∙ ap some (first-state n s e .1);
+    once = λ n k s r e f _. first-state n s e .0 ∙ sym (first-state k r f .0);
+    whole = λ x s e. let (q, r) = start-leaf p x s (leaf-state (startPool p) x s e .0) in (0, first-is ∙ ap some r, q);
+  };
+  apart = λ j k i e f. no-some {o = none} refl e;
+  continued = λ k i e. no-some {o = none} refl e;
+}
+
+-- ---- one move
+
+-- the step of a move, by the paths of its threads
+unfoldable pub stepOf : (ℕ → Path) → Order → Step
+stepOf path (alone n) = own (path n)
+stepOf path (together sender receiver) = meet (path sender) (path receiver)
+
+-- the threads that a move names are there
+abbrev pub Names : Machine → Order → Type 0
+Names m (alone n) = (t : ThreadRecord) × (threadAt (m .threads) n ≡ some t)
+Names m (together sender receiver) = ((s : ThreadRecord) × (threadAt (m .threads) sender ≡ some s)) × ((r : ThreadRecord) × (threadAt (m .threads) receiver ≡ some r))
+
+module _ (p : Program) (m : Machine) (pool : Pool) (path : ℕ → Path) (h : Stands m pool path) where
+  -- a move of threads that are there is allowed exactly if its step is, and then stands for it
+  pub move-like : (o : Order) → Names m o → Like (λ m′ ts. (path′ : ℕ → Path) × Stands m′ (ts ++ pool) path′) (moved p m o) (added p pool (stepOf path o))
+  unfolding stepOf
+  move-like o names = subst (λ q. Like (λ m′ ts. (path′ : ℕ → Path) × Stands m′ (ts ++ pool) path′) q (added p pool (stepOf path o))) (sym (flat-moved p m o)) (go o names)
+    where
+      go : (o : Order) → Names m o → Like (λ m′ ts. (path′ : ℕ → Path) × Stands m′ (ts ++ pool) path′) (flat p m o) (added p pool (stepOf path o))
+      go (alone n) (t, at) = own-like m pool path h n t at p
+      go (together sender receiver) ((s, at), (r, at′)) = meet-like p m pool path h sender s at receiver r at′
+
+  flat-names : (o : Order) (m′ : Machine) → flat p m o ≡ some m′ → Names m o
+  unfolding flat
+  flat-names (alone n) m′ e = let (t, at, _) = bind-elim (threadAt (m .threads) n) _ e in (t, at)
+  flat-names (together sender receiver) m′ e =
+      let (s, at, e′) = bind-elim (threadAt (m .threads) sender) _ e in
+      let (r, at′, _) = bind-elim (threadAt (m .threads) receiver) _ e′ in
+      ((s, at), (r, at′))
+
+  -- "or names no thread"
+  pub moved-names : (o : Order) (m′ : Machine) → moved p m o ≡ some m′ → Names m o
+  moved-names o m′ e = flat-names o m′ (sym (flat-moved p m o) ∙ e)
+
+  -- a move that is accepted: its step is allowed, and the machine after it stands for the pool after the step
+  pub accepted-step : (o : Order) (m′ : Machine) → moved p m o ≡ some m′
+      → (ts : List Thread) × (path′ : ℕ → Path) × (added p pool (stepOf path o) ≡ some ts) × Stands m′ (ts ++ pool) path′
+  accepted-step o m′ e = go e (move-like o (moved-names o m′ e))
+    where
+      go : {q : Option Machine} {a : Option (List Thread)} → q ≡ some m′ → Like (λ m′ ts. (path′ : ℕ → Path) × Stands m′ (ts ++ pool) path′) q a
+          → (ts : List Thread) × (path′ : ℕ → Path) × (a ≡ some ts) × Stands m′ (ts ++ pool) path′
+      go e neither = no-some {o = none} refl e
+      go e (both {b = ts} (path′, k)) = (ts, path′, refl, subst (λ x. Stands x (ts ++ pool) path′) (same-some e) k)
+
+  -- 30: the step isn't allowed
+  pub refused-step : (o : Order) → Names m o → moved p m o ≡ none → added p pool (stepOf path o) ≡ none
+  refused-step o there e = go e (move-like o there)
+    where
+      go : {q : Option Machine} {a : Option (List Thread)} → q ≡ none → Like (λ m′ ts. (path′ : ℕ → Path) × Stands m′ (ts ++ pool) path′) q a → a ≡ none
+      go e neither = refl
+      go e (both k) = no-some e refl
+
+-- ---- a list of moves
+
+-- the steps of moves: one for each that is accepted, by the paths that its threads then have. 30 is given where the step isn't allowed, and the machine stands for the pool all along
+module _ (p : Program) where
+  pub data Steps : Machine → Pool → (ℕ → Path) → List Order → List Step → Type 0 where
+    done : {m : Machine} {pool : Pool} {path : ℕ → Path} → Stands m pool path → Steps m pool path [] []
+    refuses : {m : Machine} {pool : Pool} {path : ℕ → Path} {o : Order} {os : List Order} {ss : List Step} (n : ℕ) → Stands m pool path → answer p m o ≡ refused n
+        → (n ≡ 30 → Names m o → added p pool (stepOf path o) ≡ none) → Steps m pool path os ss → Steps m pool path (o ∷ os) ss
+    accepts : {m : Machine} {pool : Pool} {path : ℕ → Path} {o : Order} {os : List Order} {ss : List Step} (m′ : Machine) (path′ : ℕ → Path) (ts : List Thread) → Stands m pool path
+        → answer p m o ≡ accepted m′ → added p pool (stepOf path o) ≡ some ts → Steps m′ (ts ++ pool) path′ os ss → Steps m pool path (o ∷ os) (stepOf path o ∷ ss)
+
+  pub steps-of : (os : List Order) (m : Machine) (pool : Pool) (path : ℕ → Path) → Stands m pool path → (ss : List Step) × Steps m pool path os ss
+  unfolding answer
+  steps-of [] m pool path h = ([], done h)
+  steps-of (o ∷ os) m pool path h = go (moved p m o) refl (λ m′ pool′ path′ k. steps-of os m′ pool′ path′ k)
+    where
+      refusing : (n : ℕ) → answer p m o ≡ refused n → (n ≡ 30 → Names m o → added p pool (stepOf path o) ≡ none) → ((ss : List Step) × Steps m pool path os ss) → (ss : List Step) × Steps m pool path (o ∷ os) ss
+      refusing n e f (ss, k) = (ss, refuses n h e f k)
+
+      accepting : (m′ : Machine) → moved p m o ≡ some m′ → answer p m o ≡ accepted m′ → ((m′ : Machine) (pool′ : Pool) (path′ : ℕ → Path) → Stands m′ pool′ path′ → (ss : List Step) × Steps m′ pool′ path′ os ss) → (ss : List Step) × Steps m pool path (o ∷ os) ss
+      accepting m′ e f rest =
+          let (ts, path′, allowed, k) = accepted-step p m pool path h o m′ e in
+          let (ss, l) = rest m′ (ts ++ pool) path′ k in
+          (stepOf path o ∷ ss, accepts m′ path′ ts h f allowed l)
+
+      fitting : (m′ : Machine) → moved p m o ≡ some m′ → (b : Bool) → within m′ ≡ b → ((m′ : Machine) (pool′ : Pool) (path′ : ℕ → Path) → Stands m′ pool′ path′ → (ss : List Step) × Steps m′ pool′ path′ os ss) → (ss : List Step) × Steps m pool path (o ∷ os) ss
+      fitting m′ e true q rest = accepting m′ e (rw (e, answer, q)) rest
+      fitting m′ e false q rest = refusing 31 (rw (e, answer, q)) (λ z. absurd (omega arith)) (rest m pool path h)
+
+      go : (q : Option Machine) → moved p m o ≡ q → ((m′ : Machine) (pool′ : Pool) (path′ : ℕ → Path) → Stands m′ pool′ path′ → (ss : List Step) × Steps m′ pool′ path′ os ss) → (ss : List Step) × Steps m pool path (o ∷ os) ss
+      go none e rest = refusing 30 (rw (e, answer)) (λ _ there. refused-step p m pool path h o there e) (rest m pool path h)
+      go (some m′) e rest = fitting m′ e (within m′) refl rest
+
+  left-refused : (m : Machine) (o : Order) (n : ℕ) → answer p m o ≡ refused n → left p m o ≡ m
+  unfolding left
+  left-refused m o n e = rw (e, left)
+
+  left-accepted : (m : Machine) (o : Order) (m′ : Machine) → answer p m o ≡ accepted m′ → left p m o ≡ m′
+  unfolding left
+  left-accepted m o m′ e = rw (e, left)
+
+  step-adds : (pool : Pool) (s : Step) (ts : List Thread) → added p pool s ≡ some ts → step p pool s ≡ ts ++ pool
+  unfolding step
+  step-adds pool s ts e = rw (e, step)
+
+  pub steps-stand : {m : Machine} {pool : Pool} {path : ℕ → Path} {os : List Order} {ss : List Step} → Steps m pool path os ss → (path′ : ℕ → Path) × Stands (watched p m os) (after p pool ss) path′
+  unfolding watched after
+  steps-stand (done {path = path} h) = (path, h)
+  steps-stand (refuses {m = m} {pool = pool} {o = o} {os = os} {ss = ss} n h e f k) =
+      let (path′, l) = steps-stand k in (path′, subst (λ x. Stands (watched p x os) (after p pool ss) path′) (sym (left-refused m o n e)) l)
+  steps-stand (accepts {m = m} {pool = pool} {path = path} {o = o} {os = os} {ss = ss} m′ _ ts h e allowed k) =
+      let (path′, l) = steps-stand k in
+      (path′, subst (λ x. Stands (watched p x os) (after p (step p pool (stepOf path o)) ss) path′) (sym (left-accepted m o m′ e)) (subst (λ x. Stands (watched p m′ os) (after p x ss) path′) (sym (step-adds pool (stepOf path o) ts allowed)) l))
+
+  -- "a run ends in a state that stands for the pool that the steps of its accepted moves leave, thread for leaf, instance for instance"
+  pub record Shown (os : List Order) : Type 0 where
+    pub steps : List Step
+    pub path : ℕ → Path
+    pub taken : Steps begin (startPool p) firstPath os steps
+    pub stands : Stands (watched p begin os) (run p steps) path
+
+  pub run-shown : (os : List Order) → Shown os
+  unfolding run
+  run-shown os =
+      let (ss, taken) = steps-of os begin (startPool p) firstPath (begin-stands p) in
+      let (path, h) = steps-stand taken in
+      record { steps = ss; path = path; taken = taken; stands = h }
+
+-- "What is promised of an accepted program's history holds of each run watched here"
+pub claims-watched : (p : Program) (flow comm : Table) → WellFormed p → So (keepsAll p flow comm)
+    → (word : Word) (n c : ℕ) → chanAt p c ≡ some n → Holds p flow (CanShare p) word (sendPlace p flow c) (receivePlace p flow c)
+    → (os : List Order) (maker : Path) → HistoryFits p (run p (run-shown p os .steps)) (made maker n) word
+claims-watched p flow comm well keeps word n c chan holds os maker = claims-hold p flow comm well keeps word n c chan holds (run-shown p os .steps) maker

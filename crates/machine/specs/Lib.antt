@@ -1,0 +1,2 @@
+-- What a watched run does, over threads, cells and frames, and how they stand in lent memory.
+pub mod Machine

@@ -1,0 +1,2 @@
+-- Laws of the run memory.
+pub mod Codec

@@ -1,0 +1,2 @@
+-- The run memory's layout.
+pub mod RunMemory

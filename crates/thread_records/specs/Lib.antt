@@ -1,0 +1,2 @@
+-- Thread records in a lent list.
+pub mod Records
