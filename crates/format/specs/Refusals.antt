@@ -1,4 +1,4 @@
--- "Turned back because of the input" and "because of the state": the numbers of the refusals.
+-- "Turned back because of the input" and "because of the state", and what document 02 adds from 30 on: the numbers of the refusals.
 use Prim.Native.Nat.{ℕ}
 use Rattle.format.specs.declared.Reason.{Reason}
 use Rattle.format.specs.declared.Refusal.{Refusal}
@@ -19,6 +19,8 @@ use Rattle.format.specs.declared.Reason.the-variants.{
   StoreUnsound,
   OutputTooShort,
   NotAChannel,
+  MoveNotAllowed,
+  LimitExceeded,
 }
 
 unfoldable pub number : Reason → ℕ
@@ -38,6 +40,8 @@ number StoreEmpty = 21
 number StoreUnsound = 22
 number OutputTooShort = 23
 number NotAChannel = 24
+number MoveNotAllowed = 30
+number LimitExceeded = 31
 
 abbrev pub refusal : Reason → ℕ → Refusal
 refusal reason line = record { reason = reason; line = line }

@@ -1,4 +1,4 @@
-// Why a call is turned back. Document 01 numbers these; `number` of specs/Refusals gives the numbers.
+// Why a call is turned back. Documents 01 and 02 number these; `number` of specs/Refusals gives the numbers.
 pub enum Reason {
     TooLong,
     NotALine,
@@ -16,6 +16,8 @@ pub enum Reason {
     StoreUnsound,
     OutputTooShort,
     NotAChannel,
+    MoveNotAllowed,
+    LimitExceeded,
 }
 
 // A refusal: why, and at which line; lines count from 1, and 0 is no line.

@@ -12,13 +12,9 @@ use borrow.Author.Tests.{eq-eqb, ne-eqb}
 use Rattle.program.specs.Test.{pick}
 use Rattle.format.specs.Text.{Bytes}
 use Rattle.machine.specs.declared.Cell.{Cell}
-use Rattle.machine.specs.Machine.{heldBy, find}
-use Rattle.run_memory.specs.RunMemory.{cellAt, cellsIn, memoryIn, inUse}
-
-pub length-cells : (b : Bytes) (n : ℕ) → length (cellsIn b n) ≡ n
-unfolding cellsIn
-length-cells b zero = refl
-length-cells b (suc n) = ap suc (length-cells b n)
+use Rattle.machine.specs.Machine.{heldBy, numbered, find}
+use Rattle.run_memory.specs.RunMemory.{cellAt, frameAt, cellsIn, framesIn}
+use Rattle.run_memory.proofs.Codec.{length-cells, length-frames}
 
 module _ (b : Bytes) (x : ℕ) where
   -- the newest cell
@@ -71,3 +67,25 @@ module _ (b : Bytes) (x : ℕ) where
   pub find-older : (k : ℕ) (c : Cell) → 0 < k → c ≡ cellAt b k → (c .name ≡ x → ⊥) → c .older < k → find (cellsIn b (c .older)) (c .older) x ≡ find (cellsIn b k) k x
   find-older zero c l e d g = absurd (omega arith)
   find-older (suc j) c l e d g = sym (find-from j (c .older) (omega (arith, g))) ∙ other j c e d
+
+-- ---- a frame by its number
+
+module _ (b : Bytes) where
+  pub frame-above : (n k : ℕ) → n < k → numbered (framesIn b n) k ≡ none
+  unfolding numbered framesIn
+  frame-above zero k l = refl
+  frame-above (suc n) k l = rw (length-frames b n, ne-eqb k (suc n) (λ e. absurd (omega arith))) (frame-above n k (omega arith))
+
+  pub frame-zero : (n : ℕ) → numbered (framesIn b n) 0 ≡ none
+  unfolding numbered framesIn
+  frame-zero zero = refl
+  frame-zero (suc n) = rw (length-frames b n, ne-eqb 0 (suc n) (λ e. absurd (omega arith))) (frame-zero n)
+
+  pub frame-there : (n k : ℕ) → 0 < k → k ≤ n → numbered (framesIn b n) k ≡ some (frameAt b k)
+  unfolding numbered framesIn
+  frame-there zero k l g = absurd (omega arith)
+  frame-there (suc n) k l g = go (ℕ-discrete k (suc n)) (frame-there n k l)
+    where
+      go : Dec (k ≡ suc n) → (k ≤ n → numbered (framesIn b n) k ≡ some (frameAt b k)) → numbered (framesIn b (suc n)) k ≡ some (frameAt b k)
+      go (yes e) h = rw (length-frames b n, eq-eqb k (suc n) e) (ap (λ (j : ℕ). some (frameAt b j)) (sym e))
+      go (no d) h = rw (length-frames b n, ne-eqb k (suc n) d) (h (omega (arith, g, d)))

@@ -1,14 +1,14 @@
 // The value of a name, looked for from a cell on to older ones. A look-up ends because each cell that it goes to is older than the last, so it reads at most Run::CELLS of them.
+use machine::Frame;
 use machine::Held;
 use machine::Kept;
 use run_memory::cell_at;
+use run_memory::frame_at;
 use run_memory::in_use;
 ghost use mathlib.Core.Path.{_≡_};
-ghost use Prim.Native.Nat.{_≤_};
-ghost use lib.ListN.{length};
-ghost use Rattle.machine.specs.Machine.{heldBy, find, findClosure, findChannel};
-ghost use Rattle.run_memory.specs.RunMemory.{runSize, inUse, memoryIn};
-ghost use Rattle.lookups.specs.Found.{heldIn, closureIn, channelIn};
+ghost use Rattle.machine.specs.Machine.{heldBy, numbered, find, findClosure, findChannel};
+ghost use Rattle.run_memory.specs.RunMemory.{InLimits, memoryIn};
+ghost use Rattle.lookups.specs.Found.{heldIn, closureIn, channelIn, frameIn};
 
 // What a name has, if it is found.
 pub enum Found {
@@ -26,6 +26,12 @@ pub enum ClosureFound {
 pub enum ChannelFound {
     Nothing,
     Channel(u16),
+}
+
+// A waiting return.
+pub enum FrameFound {
+    Nothing,
+    Waits(Frame),
 }
 
 // The value that the cell of this number keeps.
@@ -89,4 +95,19 @@ pub fn find_channel(run: &[u8], from: u16, name: u8) -> ChannelFound
             Held::Closure(_, _) => ChannelFound::Nothing,
         },
     }
+}
+
+// The frame of this number, if it is in use.
+pub fn find_frame(run: &[u8], k: u16) -> FrameFound
+    requires { ⌜ InLimits (now run) ⌝ }
+    ensures { λ f. ⌜ frameIn f ≡ numbered (memoryIn (now (run .entry)) .frames) k ⌝ }
+{
+    if k == 0 {
+        return FrameFound::Nothing;
+    }
+    let n = in_use(run);
+    if n.frames < k {
+        return FrameFound::Nothing;
+    }
+    FrameFound::Waits(frame_at(run, k))
 }

@@ -295,7 +295,7 @@ module _ (p : Program) (path : Path) (g : Marks) (w : Meant g) (t : ThreadRecord
 
 module _ (p : Program) (path : Path) (g : Marks) (w : Meant g) (t : ThreadRecord) (h : ThreadIn (g .cells) (g .frames) t) where
   -- a result takes the last return
-  result-like : (n : ℕ) → Like (Follows path g) (resultChange p (memoryOf g) t n) (resultMoves p path (stateIn (g .cells) (g .frames) t) n (returnsAt (g .cells) (g .frames) (t .frame)))
+  result-like : (n : ℕ) → Like (Follows path g) (resultChange (memoryOf g) t n) (resultMoves p path (stateIn (g .cells) (g .frames) t) n (returnsAt (g .cells) (g .frames) (t .frame)))
   unfolding resultChange resultMoves stateIn grown newest keptBy valueOf _>>=_
   result-like n = go (last-of (g .cells) (g .frames) (w .frames) (t .frame))
     where
@@ -322,7 +322,7 @@ module _ (p : Program) (path : Path) (g : Marks) (w : Meant g) (t : ThreadRecord
   unfolding change moves stateIn
   change-like = go (rowAt p (t .row))
     where
-      go : (x : Row) → Like (Follows path g) (elim x [ Row.Result n ↦ resultChange p (memoryOf g) t n | Row.Bind b ↦ formChange p (memoryOf g) t b (b .form) ])
+      go : (x : Row) → Like (Follows path g) (elim x [ Row.Result n ↦ resultChange (memoryOf g) t n | Row.Bind b ↦ formChange p (memoryOf g) t b (b .form) ])
           (elim x [ Row.Result n ↦ resultMoves p path (stateIn (g .cells) (g .frames) t) n (returnsAt (g .cells) (g .frames) (t .frame)) | Row.Bind b ↦ formMoves p path (stateIn (g .cells) (g .frames) t) b (b .form) ])
       go (Row.Result n) = result-like n
       go (Row.Bind b) = form-like p path g w t h b (b .form)

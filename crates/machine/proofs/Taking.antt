@@ -79,7 +79,7 @@ module _ (p : Program) (m : Memory) (t : ThreadRecord) where
   unfolding change resultChange
   change-takes = go (rowAt p (t .row))
     where
-      go : (x : Row) → Found (Takes (takenAt x)) (elim x [ Row.Result n ↦ resultChange p m t n | Row.Bind b ↦ formChange p m t b (b .form) ])
+      go : (x : Row) → Found (Takes (takenAt x)) (elim x [ Row.Result n ↦ resultChange m t n | Row.Bind b ↦ formChange p m t b (b .form) ])
       go (Row.Result n) =
           found-bind (found-self (numbered (m .frames) (t .frame))) λ f _.
           found-bind (found-self (find (m .cells) (t .cell) n)) λ v _.

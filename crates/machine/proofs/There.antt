@@ -238,7 +238,7 @@ module _ (p : Program) where
       form-there (Case s x l y u) q = case-there s x l y u (subst (λ z. Each (NameThere p) (bindersOf z)) q (there-bind .names)) (subst (λ z. Each (RowThere p) (rowsOf z)) q (there-bind .rows))
       form-there (Apply f a) q = apply-there f a
 
-    result-there : (n : ℕ) → Found ChangeThere (resultChange p m t n)
+    result-there : (n : ℕ) → Found ChangeThere (resultChange m t n)
     unfolding resultChange
     result-there n =
         found-bind (numbered-there (m .frames) (h .frames) (t .frame)) λ f (a, r).
@@ -249,7 +249,7 @@ module _ (p : Program) where
     unfolding change bindAt bindOf
     change-there = go (rowAt p (t .row)) refl
       where
-        go : (x : Row) → rowAt p (t .row) ≡ x → Found ChangeThere (elim x [ Row.Result n ↦ resultChange p m t n | Row.Bind b ↦ formChange p m t b (b .form) ])
+        go : (x : Row) → rowAt p (t .row) ≡ x → Found ChangeThere (elim x [ Row.Result n ↦ resultChange m t n | Row.Bind b ↦ formChange p m t b (b .form) ])
         go (Row.Result n) q = result-there n
         go (Row.Bind b) q = form-there b (ap bindOf q) (b .form) refl
 

@@ -102,6 +102,14 @@ bound n older k = record { name = n; older = older; kept = k }
 unfoldable pub newest : Memory → ℕ
 newest m = length (m .cells)
 
+-- the number of the frame that a call takes; "nothing is given back during a run", so each is new
+abbrev pub nextFrame : Memory → ℕ
+nextFrame m = suc (length (m .frames))
+
+-- "Case and apply push a return: N, the rest, the present environment"
+abbrev pub returnOf : ThreadRecord → Bind → Frame
+returnOf t b = record { name = b .name; rest = b .rest; cell = t .cell; older = t .frame }
+
 module _ (m : Memory) (t : ThreadRecord) (b : Bind) where
   -- on to the rest: a cell for the bind's name
   unfoldable pub goOn : Kept → Change
@@ -120,10 +128,17 @@ module _ (m : Memory) (t : ThreadRecord) (b : Bind) where
   unfoldable pub goInto : ℕ → List Cell → Change
   goInto r cells = record {
     cells = cells;
-    frames = record { name = b .name; rest = b .rest; cell = t .cell; older = t .frame } ∷ [];
-    thread = record { row = r; cell = length (cells ++ m .cells); frame = suc (length (m .frames)) };
+    frames = returnOf t b ∷ [];
+    thread = record { row = r; cell = length (cells ++ m .cells); frame = nextFrame m };
     born = [];
   }
+
+-- a result takes the last frame: a cell for the name that waited
+unfoldable pub resultChange : Memory → ThreadRecord → ℕ → Option Change
+resultChange m t n = do
+  f ← numbered (m .frames) (t .frame)
+  v ← find (m .cells) (t .cell) n
+  some (record { cells = bound (f .name) (f .cell) (Keeps v) ∷ []; frames = []; thread = record { row = f .rest; cell = suc (newest m); frame = f .older }; born = [] })
 
 module _ (p : Program) (m : Memory) (t : ThreadRecord) where
   unfoldable pub formChange : Bind → Form → Option Change
@@ -163,15 +178,8 @@ module _ (p : Program) (m : Memory) (t : ThreadRecord) where
     v ← find (m .cells) (t .cell) a
     some (goInto m t b body (bound x (suc (newest m)) (Keeps v) ∷ bound g k (Keeps (Closure r k)) ∷ []))
 
-  -- a result takes the last frame: a cell for the name that waited
-  unfoldable pub resultChange : ℕ → Option Change
-  resultChange n = do
-    f ← numbered (m .frames) (t .frame)
-    v ← find (m .cells) (t .cell) n
-    some (record { cells = bound (f .name) (f .cell) (Keeps v) ∷ []; frames = []; thread = record { row = f .rest; cell = suc (newest m); frame = f .older }; born = [] })
-
   unfoldable pub change : Option Change
-  change = elim (rowAt p (t .row)) [ Row.Result n ↦ resultChange n | Row.Bind b ↦ formChange b (b .form) ]
+  change = elim (rowAt p (t .row)) [ Row.Result n ↦ resultChange m t n | Row.Bind b ↦ formChange b (b .form) ]
 
   -- the event at a sync row: the value of its E
   unfoldable pub eventOf : Option (ℕ × ℕ)

@@ -27,6 +27,8 @@ use Rattle.format.specs.declared.Reason.the-variants.{
   StoreUnsound,
   OutputTooShort,
   NotAChannel,
+  MoveNotAllowed,
+  LimitExceeded,
 }
 use Rattle.format.specs.declared.Refusal.{Refusal}
 use Rattle.format.specs.Refusals.{number}
@@ -86,6 +88,8 @@ number-low StoreEmpty = (omega arith, omega arith)
 number-low StoreUnsound = (omega arith, omega arith)
 number-low OutputTooShort = (omega arith, omega arith)
 number-low NotAChannel = (omega arith, omega arith)
+number-low MoveNotAllowed = (omega arith, omega arith)
+number-low LimitExceeded = (omega arith, omega arith)
 
 pub refusal-back : (bits k : ℕ) (r : Refusal) → unpacked bits k (packed bits (refusalAnswer r)) ≡ refusalAnswer r
 unfolding unpacked packed refusalAnswer

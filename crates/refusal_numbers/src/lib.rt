@@ -3,7 +3,7 @@ use format::Reason;
 ghost use mathlib.Core.Path.{_≡_};
 ghost use Rattle.format.specs.Refusals.{number};
 
-// Document 01's number of a refusal.
+// The papers' number of a refusal.
 pub fn number(reason: Reason) -> u8
     ensures { λ n. ⌜ n ≡ number reason ⌝ }
 {
@@ -24,5 +24,7 @@ pub fn number(reason: Reason) -> u8
         Reason::StoreUnsound => 22,
         Reason::OutputTooShort => 23,
         Reason::NotAChannel => 24,
+        Reason::MoveNotAllowed => 30,
+        Reason::LimitExceeded => 31,
     }
 }

@@ -17,7 +17,7 @@ use Rattle.machine.specs.declared.Held.{Held}
 use Rattle.machine.specs.declared.Held.the-variants.{Channel, Closure}
 use Rattle.machine.specs.declared.Kept.{Kept}
 use Rattle.machine.specs.declared.Kept.the-variants.{Makes, Keeps}
-use Rattle.machine.specs.Machine.{Memory, Machine, Change, grown, begin, changed, cellLimit, frameLimit}
+use Rattle.machine.specs.Machine.{Memory, Machine, Change, grown, newest, begin, changed, cellLimit, frameLimit}
 use Rattle.run_memory.specs.declared.Slot.{Slot}
 use Rattle.run_memory.specs.declared.InUse.{InUse}
 use Rattle.run_memory.specs.RunMemory.{slotSize, runSize, slot, wordAt, slotAt, slotBytes, putSlot, kindOf, rowOf, cellOf, slotOfCell, slotOfFrame, keptOf, cellOfSlot, frameOfSlot, counts}
@@ -124,6 +124,26 @@ counted-frames b n k = frames-same b 0 _ k (λ j l e. absurd (omega arith))
 pub length-counted : (b : Bytes) (n : InUse) → length (counted b n) ≡ length b
 unfolding counted
 length-counted b n = length-put b 0 _
+
+-- as many cells and frames as there are numbers
+pub length-cells : (b : Bytes) (n : ℕ) → length (cellsIn b n) ≡ n
+unfolding cellsIn
+length-cells b zero = refl
+length-cells b (suc n) = ap suc (length-cells b n)
+
+pub length-frames : (b : Bytes) (n : ℕ) → length (framesIn b n) ≡ n
+unfolding framesIn
+length-frames b zero = refl
+length-frames b (suc n) = ap suc (length-frames b n)
+
+-- the newest cell and frame
+pub newest-is : (b : Bytes) → newest (memoryIn b) ≡ inUse b .cells
+unfolding newest memoryIn
+newest-is b = length-cells b (inUse b .cells)
+
+pub frames-are : (b : Bytes) → length (memoryIn b .frames) ≡ inUse b .frames
+unfolding memoryIn
+frames-are b = length-frames b (inUse b .frames)
 
 -- ---- what is pushed: the bytes have so much in use, mean this memory, and are as long as they were
 

@@ -2,7 +2,7 @@
 --   slot 0          threads, 0, 0, cells, frames
 --   slot k          cell k: name, kind, row, older, cell. Kind 0 is unit, 1 a channel that this cell made, 2 a channel that another made, any other a closure
 --   slot 4096 + k   frame k: name, rest, 0, cell, older
-use Prim.Native.Nat.{ℕ, zero, suc, _+_, _*_, _/_, _%_}
+use Prim.Native.Nat.{ℕ, zero, suc, _+_, _*_, _/_, _%_, _≤_}
 use mathlib.Core.Bool.{Bool, true, false, _&&_}
 use mathlib.Core.List.{List, [], _∷_}
 use lib.ListN.{length, set, getD, take}
@@ -118,6 +118,11 @@ machineIn run ts = record { threads = take (inUse run .threads) ts; memory = mem
 
 unfoldable pub withinLimits : InUse → Bool
 withinLimits n = leb (n .threads) threadLimit && leb (n .cells) cellLimit && leb (n .frames) frameLimit
+
+-- what is known of run memory that is not refused for its counts
+pub record InLimits (run : Bytes) : Type 0 where
+  pub cells : inUse run .cells ≤ cellLimit
+  pub frames : inUse run .frames ≤ frameLimit
 
 unfoldable pub soundRun : Program → Bytes → List ThreadRecord → Bool
 soundRun p run ts = withinLimits (inUse run) && sound p (machineIn run ts)

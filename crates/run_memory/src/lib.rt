@@ -8,8 +8,8 @@ ghost use mathlib.Core.Path.{_≡_};
 ghost use Prim.Native.Nat.{_+_, _*_, _≤_, _<_};
 ghost use lib.ListN.{length};
 ghost use Rattle.machine.specs.declared.Kept.{Kept};
-ghost use Rattle.machine.specs.Machine.{cellLimit, frameLimit, threadLimit};
-ghost use Rattle.run_memory.specs.RunMemory.{slotSize, runSize, wordAt, slotAt, putSlot, keptOf, slotOfCell, inUse, cellAt, frameAt, counted, pushCell, pushFrame, pushThread};
+ghost use Rattle.machine.specs.Machine.{cellLimit, frameLimit, threadLimit, nextFrame};
+ghost use Rattle.run_memory.specs.RunMemory.{slotSize, runSize, wordAt, slotAt, putSlot, keptOf, slotOfCell, inUse, InLimits, memoryIn, cellAt, frameAt, counted, pushCell, pushFrame, pushThread};
 
 // A slot: three numbers of one byte and two of two bytes.
 pub struct Slot {
@@ -206,11 +206,23 @@ pub fn push_cell(run: &mut [u8], cell: Cell)
     let n = in_use(run);
     let cells = n.cells + 1;
     put_slot(run, cells, slot_of_cell(cell));
-    put_counts(run, InUse {
-        threads: n.threads,
-        cells: cells,
-        frames: n.frames,
-    });
+    put_counts(
+        run,
+        InUse {
+            threads: n.threads,
+            cells: cells,
+            frames: n.frames,
+        },
+    );
+}
+
+// The number of the frame that is taken next.
+pub fn next_frame(run: &[u8]) -> u16
+    requires { ⌜ InLimits (now run) ⌝ }
+    ensures { λ k. ⌜ k ≡ nextFrame (memoryIn (now (run .entry))) ⌝ }
+{
+    let n = in_use(run);
+    n.frames + 1
 }
 
 // Takes a frame. Nothing is given back during a run.
@@ -221,18 +233,25 @@ pub fn push_frame(run: &mut [u8], frame: Frame)
 {
     let n = in_use(run);
     let frames = n.frames + 1;
-    put_slot(run, Run::CELLS + frames, Slot {
-        a: frame.name,
-        b: frame.rest,
-        c: 0,
-        d: frame.cell,
-        e: frame.older,
-    });
-    put_counts(run, InUse {
-        threads: n.threads,
-        cells: n.cells,
-        frames: frames,
-    });
+    put_slot(
+        run,
+        Run::CELLS + frames,
+        Slot {
+            a: frame.name,
+            b: frame.rest,
+            c: 0,
+            d: frame.cell,
+            e: frame.older,
+        },
+    );
+    put_counts(
+        run,
+        InUse {
+            threads: n.threads,
+            cells: n.cells,
+            frames: frames,
+        },
+    );
 }
 
 // Counts one thread more.
@@ -242,9 +261,12 @@ pub fn push_thread(run: &mut [u8])
     ensures { λ _. ⌜ now (run .exit) ≡ pushThread (now (run .entry)) ⌝ }
 {
     let n = in_use(run);
-    put_counts(run, InUse {
-        threads: n.threads + 1,
-        cells: n.cells,
-        frames: n.frames,
-    });
+    put_counts(
+        run,
+        InUse {
+            threads: n.threads + 1,
+            cells: n.cells,
+            frames: n.frames,
+        },
+    );
 }

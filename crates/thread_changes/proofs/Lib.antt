@@ -1,0 +1,2 @@
+-- Laws about what a thread's move does.
+pub mod Rules
