@@ -12,20 +12,20 @@ use Rattle.program.specs.declared.Form.the-variants.{Chan, Send, Recv, Left, Fu
 use Rattle.program.specs.Each.{every, elem, collect}
 use Rattle.program.specs.Maybe.{_>>=_, _<|>_, given}
 use Rattle.program.specs.Program.{Program, rowAt, bindOf, bindAt, formAt, sendAt, recvAt, pairAt, leftAt, rightAt, funAt, syncAt, binders}
-use Rattle.machine.specs.Machine.{Machine, numbered, heldBy, find, closureHeldBy, channelHeldBy, findClosure, findChannel, threadAt, grown, newest, goOn, fork, goInto, formChange, resultChange, change, eventOf, sends, sendsWhat, offers, awaits, begin, changed, Order, alone, together, changedAll, changes, moved, within, refused, accepted, answer, left, watched, rowThere, nameThere, soundKept, soundCells, soundFrame, soundThread, sound}
+use Rattle.machine.specs.Machine.{Machine, bothGoOn, meeting, numbered, heldBy, find, closureHeldBy, channelHeldBy, findClosure, findChannel, threadAt, grown, newest, goOn, fork, goInto, formChange, resultChange, change, eventOf, sends, sendsWhat, offers, awaits, begin, changed, Order, alone, together, changedAll, changes, moved, within, refused, accepted, answer, left, watched, rowThere, nameThere, soundKept, soundCells, soundFrame, soundThread, sound}
 
 bind : ℕ → Form → ℕ → Row
 bind n f t = Row.Bind (record { name = n; form = f; rest = t })
 
 -- each move's answer: the number of threads where it is accepted, and its refusal above 1,000
 answers : Program → Machine → List Order → List ℕ
-unfolding answer moved changes changedAll within changed change formChange resultChange goOn fork goInto grown newest find findClosure findChannel closureHeldBy channelHeldBy heldBy numbered threadAt eventOf sends sendsWhat offers awaits given _>>=_ _<|>_ rowAt bindAt bindOf formAt sendAt recvAt pairAt leftAt rightAt funAt syncAt left
+unfolding answer moved changes meeting bothGoOn changedAll within changed change formChange resultChange goOn fork goInto grown newest find findClosure findChannel closureHeldBy channelHeldBy heldBy numbered threadAt eventOf sends sendsWhat offers awaits given _>>=_ _<|>_ rowAt bindAt bindOf formAt sendAt recvAt pairAt leftAt rightAt funAt syncAt left
 answers p m [] = []
 answers p m (o ∷ os) = elim (answer p m o) [ refused n ↦ (1000 + n) ∷ answers p m os | accepted m′ ↦ length (m′ .threads) ∷ answers p m′ os ]
 
 -- the rows of the threads, then the cells and frames in use, and whether the machine is sound
 shown : Program → List Order → List ℕ × (ℕ × ℕ × Bool)
-unfolding watched left answer moved changes changedAll within changed change formChange resultChange goOn fork goInto grown newest find findClosure findChannel closureHeldBy channelHeldBy heldBy numbered threadAt eventOf sends sendsWhat offers awaits given _>>=_ _<|>_ rowAt bindAt bindOf formAt sendAt recvAt pairAt leftAt rightAt funAt syncAt sound soundThread soundFrame soundCells soundKept rowThere nameThere begin every elem collect binders
+unfolding watched left answer moved changes meeting bothGoOn changedAll within changed change formChange resultChange goOn fork goInto grown newest find findClosure findChannel closureHeldBy channelHeldBy heldBy numbered threadAt eventOf sends sendsWhat offers awaits given _>>=_ _<|>_ rowAt bindAt bindOf formAt sendAt recvAt pairAt leftAt rightAt funAt syncAt sound soundThread soundFrame soundCells soundKept rowThere nameThere begin every elem collect binders
 shown p os = let m = watched p begin os in (map (λ t. t .row) (m .threads), (length (m .memory .cells), length (m .memory .frames), sound p m))
 
 -- example A: a child receives what its parent sends

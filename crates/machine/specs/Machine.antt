@@ -211,6 +211,20 @@ module _ (p : Program) (m : Memory) (t : ThreadRecord) where
     c ← recvAt p r
     findChannel (m .cells) k c
 
+-- both ends of a meeting: the change of the receiver, whose name gets the message, and then that of the sender, whose name gets unit
+unfoldable pub bothGoOn : Memory → ThreadRecord → Bind → ThreadRecord → Bind → Held → Change × Change
+bothGoOn m sender b receiver d v = let c = goOn m receiver d (Keeps v) in (c, goOn (grown m c) sender b (Keeps Held.Unit))
+
+-- a send and a receive on one instance
+unfoldable pub meeting : Program → Memory → ThreadRecord → ThreadRecord → Option (Change × Change)
+meeting p m sender receiver = do
+  b ← bindAt p (sender .row)
+  d ← bindAt p (receiver .row)
+  (i, v) ← offers p m sender
+  j ← awaits p m receiver
+  _ ← given (eqb i j)
+  some (bothGoOn m sender b receiver d v)
+
 -- ---- what a move takes
 
 pub record Taken : Type 0 where
@@ -284,13 +298,8 @@ module _ (p : Program) where
   changes m (together sender receiver) = do
     s ← threadAt (m .threads) sender
     r ← threadAt (m .threads) receiver
-    b ← bindAt p (s .row)
-    d ← bindAt p (r .row)
-    (i, v) ← offers p (m .memory) s
-    j ← awaits p (m .memory) r
-    _ ← given (eqb i j)
-    let c = goOn (m .memory) r d (Keeps v) in
-        some ((receiver, c) ∷ (sender, goOn (grown (m .memory) c) s b (Keeps Held.Unit)) ∷ [])
+    (c, d) ← meeting p (m .memory) s r
+    some ((receiver, c) ∷ (sender, d) ∷ [])
 
   unfoldable pub moved : Machine → Order → Option Machine
   moved m o = changes m o >>= λ cs. some (changedAll m cs)

@@ -46,13 +46,13 @@ module _ (run : Bytes) (t : ThreadRecord) (b : Bind) (n : InUse) (e : n ≡ inUs
 
   pub enters : (row name : ℕ) (v : Held) (f : ℕ) → f ≡ nextFrame (memoryIn run)
       → some (changeOf (bound name (t .cell) (Keeps v) ∷ []) (returnOf t b ∷ []) (record { row = row; cell = n .cells + 1; frame = f }) [])
-        ≡ some (goInto (memoryIn run) t b row (bound name (t .cell) (Keeps v) ∷ []))
+      ≡ some (goInto (memoryIn run) t b row (bound name (t .cell) (Keeps v) ∷ []))
   unfolding goInto newest
   enters row name v f h = ap₂ (λ (k f : ℕ). some (changeOf (bound name (t .cell) (Keeps v) ∷ []) (returnOf t b ∷ []) (recordOf row k f) [])) (newest-next run n e) h
 
   pub applies : (body own parameter r k : ℕ) (v : Held) (f : ℕ) → f ≡ nextFrame (memoryIn run)
       → some (changeOf (bound parameter (n .cells + 1) (Keeps v) ∷ bound own k (Keeps (Closure r k)) ∷ []) (returnOf t b ∷ []) (record { row = body; cell = n .cells + 1 + 1; frame = f }) [])
-        ≡ some (goInto (memoryIn run) t b body (bound parameter (suc (newest (memoryIn run))) (Keeps v) ∷ bound own k (Keeps (Closure r k)) ∷ []))
+      ≡ some (goInto (memoryIn run) t b body (bound parameter (suc (newest (memoryIn run))) (Keeps v) ∷ bound own k (Keeps (Closure r k)) ∷ []))
   unfolding goInto newest
   applies body own parameter r k v f h =
       let q : n .cells + 1 + 1 ≡ suc (n .cells + 1) = omega arith in

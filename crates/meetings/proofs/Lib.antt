@@ -1,0 +1,2 @@
+-- Laws about meetings.
+pub mod Both
