@@ -17,9 +17,11 @@ use Rattle.thread_changes.proofs.Rules.{newest-next}
 
 -- the receiver takes the next cell, and the sender the one after it
 pub both-go-on : (run : Bytes) (s : ThreadRecord) (b : Bind) (r : ThreadRecord) (d : Bind) (v : Held) (n : InUse) → n ≡ inUse run
-    → some (changeOf (bound (d .name) (r .cell) (Keeps v) ∷ []) [] (record { row = d .rest; cell = n .cells + 1; frame = r .frame }) [],
-        changeOf (bound (b .name) (s .cell) (Keeps Held.Unit) ∷ []) [] (record { row = b .rest; cell = n .cells + 1 + 1; frame = s .frame }) [])
-      ≡ some (bothGoOn (memoryIn run) s b r d v)
+    → some (
+      changeOf (bound (d .name) (r .cell) (Keeps v) ∷ []) [] (record { row = d .rest; cell = n .cells + 1; frame = r .frame }) [],
+      changeOf (bound (b .name) (s .cell) (Keeps Held.Unit) ∷ []) [] (record { row = b .rest; cell = n .cells + 1 + 1; frame = s .frame }) [],
+    )
+    ≡ some (bothGoOn (memoryIn run) s b r d v)
 unfolding bothGoOn goOn grown newest
 both-go-on run s b r d v n e =
     let q : n .cells + 1 ≡ suc (newest (memoryIn run)) = newest-next run n e in

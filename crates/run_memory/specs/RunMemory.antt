@@ -166,3 +166,8 @@ placed ts n (t ∷ us) = placed (set ts n t) (suc n) us
 
 unfoldable pub threadsAfter : Bytes → List ThreadRecord → ℕ → Change → List ThreadRecord
 threadsAfter run ts n c = placed (set ts n (c .thread)) (inUse run .threads) (c .born)
+
+-- ---- 31: what is in use and what a move takes exceed no limit
+
+unfoldable pub hasRoom : InUse → ℕ → ℕ → ℕ → Bool
+hasRoom n cells frames threads = leb (cells + n .cells) cellLimit && leb (frames + n .frames) frameLimit && leb (threads + n .threads) threadLimit

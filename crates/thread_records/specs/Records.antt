@@ -12,6 +12,10 @@ noRecord = record { row = 0; cell = 0; frame = 0 }
 abbrev pub withRecord : Records → ℕ → ThreadRecord → Records
 withRecord r k t = record { lent = r .lent; list = set (r .list) k t }
 
+-- no record yet, of a list of this length
+abbrev pub noRecords : ℕ → Records
+noRecords lent = record { lent = lent; list = replicate threadLimit noRecord }
+
 -- a list whose first k records are those of another
 unfoldable pub copied : ℕ → List ThreadRecord → List ThreadRecord → List ThreadRecord
 copied zero from into = into

@@ -1,0 +1,2 @@
+-- Laws about what a move leaves.
+pub mod Making

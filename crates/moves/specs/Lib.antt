@@ -1,0 +1,2 @@
+-- What a move that is allowed leaves.
+pub mod Moves

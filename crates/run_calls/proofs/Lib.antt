@@ -1,0 +1,2 @@
+-- Theorems about the run calls.
+pub mod Left

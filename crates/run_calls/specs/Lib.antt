@@ -1,0 +1,2 @@
+-- The run calls.
+pub mod RunCalls
