@@ -1,2 +1,3 @@
 -- The run calls.
 pub mod RunCalls
+pub mod Watching

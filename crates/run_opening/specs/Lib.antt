@@ -1,0 +1,2 @@
+-- What opening a run answers.
+pub mod RunOpening

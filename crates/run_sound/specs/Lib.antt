@@ -1,0 +1,2 @@
+-- What the tests of one cell, frame and thread go by.
+pub mod Known
