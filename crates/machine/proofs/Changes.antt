@@ -25,20 +25,13 @@ use Rattle.machine.specs.declared.Held.the-variants.{Channel, Closure}
 use Rattle.machine.specs.declared.Kept.{Kept}
 use Rattle.machine.specs.declared.Kept.the-variants.{Makes, Keeps}
 use Rattle.machine.specs.Machine.{Memory, numbered, find, findClosure, Change, grown, bound, newest, goOn, fork, goInto, formChange, resultChange, change}
+use Rattle.machine.specs.Meaning.{Marked, cells, count, madeBy, ownAt, keptBy, valueBy, envAt, valueOf, returnsAt, stateIn, Marks, memoryOf}
 use Rattle.machine.proofs.Like.{Like, neither, both, like-bind, like-same, like-either}
-use Rattle.machine.proofs.Meaning.{Marked, cells, count, madeBy, ownAt, keptBy, valueBy, envAt, valueOf, returnsAt, stateIn, HeldIn, KeptIn, CellsIn, FramesIn, ThreadIn, env-older, own-older, env-newest, own-newest, value-older, held-older, returns-older, frames-older, frame-older, frame-newest, Means, find-like, SameClosure, closure-like, Last, no-return, last, last-of}
+use Rattle.machine.proofs.Meaning.{HeldIn, KeptIn, CellsIn, FramesIn, ThreadIn, env-older, own-older, env-newest, own-newest, value-older, held-older, returns-older, frames-older, frame-older, frame-newest, Means, find-like, SameClosure, closure-like, Last, no-return, last, last-of}
 
 -- the path on which an instance was made
 unfoldable pub maker : Instance → Path
 maker (made path n) = path
-
--- memory with its instances
-pub record Marks : Type 0 where
-  pub cells : List Marked
-  pub frames : List Frame
-
-abbrev pub memoryOf : Marks → Memory
-memoryOf g = record { cells = cells (g .cells); frames = g .frames }
 
 pub record Meant (g : Marks) : Type 0 where
   pub cells : CellsIn (g .cells)

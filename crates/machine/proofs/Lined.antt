@@ -7,12 +7,7 @@ use mathlib.Core.Path.{_≡_, refl, sym, _∙_, ap}
 use mathlib.Core.Logic.{_≢_}
 use Rattle.program.specs.Run.{Path, State}
 use Rattle.machine.proofs.Leaves.{put, put-same, put-other, decide, samePath, no-some}
-
--- the threads by their numbers, the leaves by their paths, and the path of each number
-pub record Lined (threads : ℕ → Option State) (leaves : Path → Option State) (path : ℕ → Path) : Type 0 where
-  pub each : (n : ℕ) (s : State) → threads n ≡ some s → leaves (path n) ≡ some s
-  pub once : (n k : ℕ) (s r : State) → threads n ≡ some s → threads k ≡ some r → path n ≡ path k → n ≡ k
-  pub whole : (x : Path) (s : State) → leaves x ≡ some s → (n : ℕ) × (threads n ≡ some s) × (path n ≡ x)
+use Rattle.machine.specs.Standing.{Lined}
 
 pub lined-same : (threads threads′ : ℕ → Option State) (leaves leaves′ : Path → Option State) (path : ℕ → Path)
     → ((n : ℕ) → threads′ n ≡ threads n) → ((x : Path) → leaves′ x ≡ leaves x) → Lined threads leaves path → Lined threads′ leaves′ path

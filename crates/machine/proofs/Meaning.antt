@@ -21,60 +21,8 @@ use Rattle.machine.specs.declared.Held.the-variants.{Channel, Closure}
 use Rattle.machine.specs.declared.Kept.{Kept}
 use Rattle.machine.specs.declared.Kept.the-variants.{Makes, Keeps}
 use Rattle.machine.specs.Machine.{numbered, heldBy, find, closureHeldBy, channelHeldBy, findClosure, findChannel}
+use Rattle.machine.specs.Meaning.{Marked, cells, count, madeBy, ownAt, channelBy, valueBy, keptBy, envAt, valueOf, returnsAt}
 use Rattle.machine.proofs.Like.{Like, neither, both, like-bind, like-map}
-
--- a cell with its instance
-pub record Marked : Type 0 where
-  pub cell : Cell
-  pub instance : Instance
-
-abbrev pub cells : List Marked → List Cell
-cells [] = []
-cells (c ∷ cs) = c .cell ∷ cells cs
-
-abbrev pub count : List Marked → ℕ
-count cs = length (cells cs)
-
--- the instance of a cell that Makes a channel
-unfoldable pub madeBy : Kept → Instance → Option Instance
-madeBy Makes i = some i
-madeBy (Keeps h) i = none
-
-unfoldable pub ownAt : List Marked → ℕ → Option Instance
-ownAt [] k = none
-ownAt (c ∷ cs) k = pick (eqb k (suc (count cs))) (madeBy (c .cell .kept) (c .instance)) (ownAt cs k)
-
-unfoldable pub channelBy : Option Instance → Value
-channelBy none = unit
-channelBy (some i) = channel i
-
--- a value, from the meaning of cells as environments and as channels
-unfoldable pub valueBy : (ℕ → Env) → (ℕ → Option Instance) → Held → Value
-valueBy env own Held.Unit = unit
-valueBy env own (Channel k) = channelBy (own k)
-valueBy env own (Closure r k) = closure r (env k)
-
-unfoldable pub keptBy : (ℕ → Env) → (ℕ → Option Instance) → Instance → Kept → Value
-keptBy env own i Makes = channel i
-keptBy env own i (Keeps h) = valueBy env own h
-
--- the environment whose newest cell has this number
-unfoldable pub envAt : List Marked → ℕ → Env
-envAt [] k = empty
-envAt (c ∷ cs) k =
-    pick (eqb k (suc (count cs))) (extend (envAt cs (c .cell .older)) (c .cell .name) (keptBy (envAt cs) (ownAt cs) (c .instance) (c .cell .kept))) (envAt cs k)
-
-unfoldable pub valueOf : List Marked → Held → Value
-valueOf cs h = valueBy (envAt cs) (ownAt cs) h
-
--- the returns whose last has this frame
-unfoldable pub returnsAt : List Marked → List Frame → ℕ → List Return
-returnsAt cs [] k = []
-returnsAt cs (f ∷ fs) k =
-    pick (eqb k (suc (length fs))) (record { name = f .name; rest = f .rest; env = envAt cs (f .cell) } ∷ returnsAt cs fs (f .older)) (returnsAt cs fs k)
-
-unfoldable pub stateIn : List Marked → List Frame → ThreadRecord → State
-stateIn cs fs t = record { row = t .row; env = envAt cs (t .cell); returns = returnsAt cs fs (t .frame) }
 
 -- ---- memory that has a meaning: what is named is in use, older, and a channel's cell Makes one
 

@@ -23,10 +23,11 @@ use Rattle.machine.specs.declared.Held.{Held}
 use Rattle.machine.specs.declared.Kept.{Kept}
 use Rattle.machine.specs.declared.Kept.the-variants.{Keeps}
 use Rattle.machine.specs.Machine.{Memory, Machine, threadAt, Change, changed, goOn, eventOf, sends, sendsWhat, offers, awaits, together}
+use Rattle.machine.specs.Meaning.{Marked, cells, count, ownAt, stateIn, Marks, memoryOf}
 use Rattle.machine.proofs.Flat.{flat}
 use Rattle.machine.proofs.Like.{Like, neither, both, like-bind, like-same, like-found}
-use Rattle.machine.proofs.Meaning.{Marked, cells, count, ownAt, stateIn, CellsIn, ThreadIn, Means, find-like, SameClosure, closure-like, channel-like}
-use Rattle.machine.proofs.Changes.{Marks, memoryOf, Meant, unit-means}
+use Rattle.machine.proofs.Meaning.{CellsIn, ThreadIn, Means, find-like, SameClosure, closure-like, channel-like}
+use Rattle.machine.proofs.Changes.{Meant, unit-means}
 use Rattle.machine.proofs.Leaves.{put, put-same, put-other, samePath, no-some, leaf-new, leaf-alone, leaves-after, longer-differs}
 use Rattle.machine.proofs.Stands.{Stands, here, leaf-here, state-here, goes-on, put-elsewhere, at-none, states-at, same-some}
 

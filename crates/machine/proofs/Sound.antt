@@ -20,12 +20,13 @@ use Rattle.machine.specs.declared.Held.the-variants.{Channel, Closure}
 use Rattle.machine.specs.declared.Kept.{Kept}
 use Rattle.machine.specs.declared.Kept.the-variants.{Makes, Keeps}
 use Rattle.machine.specs.Machine.{Memory, Machine, threadAt, begin, Order, watched, rowThere, nameThere, soundKept, soundCells, soundFrame, soundThread, sound}
-use Rattle.machine.proofs.Meaning.{Marked, cells, count, ownAt, own-older, HeldIn, KeptIn, CellsIn, FramesIn, ThreadIn}
-use Rattle.machine.proofs.Changes.{Marks, memoryOf, Meant}
+use Rattle.machine.specs.Meaning.{Marked, cells, count, ownAt, Marks, memoryOf}
+use Rattle.machine.proofs.Meaning.{own-older, HeldIn, KeptIn, CellsIn, FramesIn, ThreadIn}
+use Rattle.machine.proofs.Changes.{Meant}
 use Rattle.machine.proofs.Leaves.{no-some}
 use Rattle.machine.proofs.Stands.{Stands}
 use Rattle.machine.proofs.There.{CellThere, KeptThere, FrameThere, ThreadThere, MemoryThere, MachineThere, watched-there, begin-there}
-use Rattle.machine.proofs.Watched.{Shown, run-shown}
+use Rattle.machine.proofs.Watched.{from-begin}
 
 -- no channel has the number 0
 no-own : (cs : List Marked) → ownAt cs 0 ≡ none
@@ -75,4 +76,4 @@ module _ (p : Program) where
 
   -- 22 is never given on what beginning and moves left
   pub watched-sound : WellFormed p → 0 < length p → (os : List Order) → So (sound p (watched p begin os))
-  watched-sound well l os = let s : Shown p os = run-shown p os in stands-sound (watched p begin os) _ (s .path) (s .stands) (watched-there p well os begin (begin-there p well l))
+  watched-sound well l os = let e = from-begin p os in stands-sound (watched p begin os) _ (e .last) (e .stands) (watched-there p well os begin (begin-there p well l))

@@ -20,12 +20,14 @@ use Rattle.machine.specs.declared.Held.{Held}
 use Rattle.machine.specs.declared.Kept.{Kept}
 use Rattle.machine.specs.declared.Kept.the-variants.{Keeps}
 use Rattle.machine.specs.Machine.{Memory, Machine, threadAt, Change, grown, change, changed, goOn, Order, alone, together}
+use Rattle.machine.specs.Meaning.{Marked, cells, count, ownAt, envAt, returnsAt, stateIn, Marks, memoryOf, states}
+use Rattle.machine.specs.Standing.{Lined}
 use Rattle.machine.proofs.Flat.{flat}
 use Rattle.machine.proofs.Like.{Like, neither, both, like-bind, like-same}
-use Rattle.machine.proofs.Meaning.{Marked, cells, count, ownAt, envAt, returnsAt, stateIn, ThreadIn, Means}
-use Rattle.machine.proofs.Changes.{maker, Marks, memoryOf, Meant, Extends, Outcome, one, two, Follows, on-held, change-like}
+use Rattle.machine.proofs.Meaning.{ThreadIn, Means}
+use Rattle.machine.proofs.Changes.{maker, Meant, Extends, Outcome, one, two, Follows, on-held, change-like}
 use Rattle.machine.proofs.Leaves.{put, put-same, put-other, put-idle, put-cong, decide, samePath, no-some, leaf-state, New, leaf-new, leaf-alone, new-state, not-leaf, shorter-leaf, leaf-stays, longer-differs, other-state, leaves-after}
-use Rattle.machine.proofs.Lined.{Lined, lined-same, leave, arrive}
+use Rattle.machine.proofs.Lined.{lined-same, leave, arrive}
 
 -- ---- threads by their numbers
 
@@ -76,10 +78,6 @@ two-differ : (x : Path) (l k : Label) → l ≢ k → Begins (x ▷ l) (x ▷ k)
 unfolding size
 two-differ x l k h (inl e) = let q : l ≡ k = cc in h q
 two-differ x l k h (inr b) = omega (arith, begins-size (x ▷ l) x b)
-
--- the states of the threads
-unfoldable pub states : Marks → List ThreadRecord → ℕ → Option State
-states g ts n = threadAt ts n >>= λ t. some (stateIn (g .cells) (g .frames) t)
 
 pub states-at : (g : Marks) (ts : List ThreadRecord) (n : ℕ) (t : ThreadRecord) → threadAt ts n ≡ some t → states g ts n ≡ some (stateIn (g .cells) (g .frames) t)
 unfolding states _>>=_

@@ -1,7 +1,7 @@
--- What each move takes of cells, frames and threads: 31 can be told before anything is altered.
+-- What each move takes of cells, frames and threads: 31 can be told before anything is altered; and so what each move answers.
 use Prim.Native.Nat.{ℕ, zero, suc, _+_}
 use native.Mathlib.Omega.{arith}
-use mathlib.Core.Bool.{Bool, true, false, _&&_}
+use mathlib.Core.Bool.{Bool, true, false, _&&_, So}
 use mathlib.Core.List.{List, [], _∷_, _++_}
 use mathlib.Core.Option.{Option, none, some}
 use mathlib.Core.Path.{_≡_, refl, sym, _∙_, ap, subst}
@@ -12,7 +12,14 @@ use Rattle.program.specs.declared.Bind.{Bind}
 use Rattle.program.specs.declared.Form.{Form}
 use Rattle.program.specs.declared.Form.the-variants.{Chan, Send, Recv, Pair, Left, Right, Fun, Spawn, Sync, First, Second, Case, Apply}
 use Rattle.program.specs.Maybe.{_>>=_, _<|>_, given}
-use Rattle.program.specs.Program.{Program, rowAt, bindAt, pairAt, leftAt, rightAt, funAt}
+use Rattle.program.specs.declared.Word.{Word}
+use Rattle.program.specs.Flow.{Table, keepsAll}
+use Rattle.program.specs.History.{HistoryFits}
+use Rattle.program.specs.Run.{Path, made, Thread, Pool, added, run}
+use Rattle.program.specs.Walk.{CanShare, Holds, sendPlace, receivePlace}
+use Rattle.program.proofs.Sound.Histories.{claims-hold}
+use Rattle.program.proofs.WellFormed.{WellFormed}
+use Rattle.program.specs.Program.{Program, rowAt, chanAt, bindAt, pairAt, leftAt, rightAt, funAt}
 use Rattle.program.proofs.Maybe.{Found, nothing, found, found-self, found-bind, found-either, found-at}
 use Rattle.machine.specs.declared.ThreadRecord.{ThreadRecord}
 use Rattle.machine.specs.declared.Cell.{Cell}
@@ -20,8 +27,11 @@ use Rattle.machine.specs.declared.Frame.{Frame}
 use Rattle.machine.specs.declared.Held.{Held}
 use Rattle.machine.specs.declared.Kept.{Kept}
 use Rattle.machine.specs.declared.Kept.the-variants.{Keeps}
-use Rattle.machine.specs.Machine.{Memory, Machine, numbered, find, findClosure, threadAt, Change, grown, bound, newest, goOn, fork, goInto, formChange, resultChange, change, offers, awaits, changed, Order, alone, together, moved, within, Taken, takes, takenBy, takenAt, takenIn, fits}
+use Rattle.machine.specs.Machine.{Memory, Machine, numbered, find, findClosure, threadAt, Change, grown, bound, newest, goOn, fork, goInto, formChange, resultChange, change, offers, awaits, begin, changed, watched, Order, alone, together, moved, within, answer, Taken, takes, takenBy, takenAt, takenIn, fits}
+use Rattle.machine.specs.Standing.{stepOf, Shown, AnswerIs, not-allowed, too-large, taken}
 use Rattle.machine.proofs.Flat.{flat, flat-moved}
+use Rattle.machine.proofs.Stands.{Stands}
+use Rattle.machine.proofs.Watched.{moved-names, accepted-step, refused-step, stands-for, from-begin}
 
 -- the change takes so much
 pub record Takes (k : Taken) (c : Change) : Type 0 where
@@ -133,3 +143,37 @@ module _ (p : Program) where
   pub within-fits : (m : Machine) (o : Order) (m′ : Machine) → moved p m o ≡ some m′ → within m′ ≡ fits m (takenIn p m o)
   unfolding within fits
   within-fits m o m′ e = let u = found-at e (moved-uses m o) in rw (u .cells, u .frames, u .threads)
+
+-- ---- what a move answers
+
+pub answer-is : (p : Program) (m : Machine) (pool : Pool) (path : ℕ → Path) → Stands m pool path → (o : Order) → AnswerIs p m pool path o (answer p m o)
+unfolding answer
+answer-is p m pool path h o = go (moved p m o) refl
+  where
+    fitting : (m′ : Machine) → moved p m o ≡ some m′ → (b : Bool) → within m′ ≡ b → AnswerIs p m pool path o (answer p m o)
+    fitting m′ e b w =
+        let (new, path′, allowed, k) = accepted-step p m pool path h o m′ e in
+        let f : fits m (takenIn p m o) ≡ b = sym (within-fits p m o m′ e) ∙ w in
+        decided m′ e new path′ allowed k b w f
+      where
+        decided : (m′ : Machine) → moved p m o ≡ some m′ → (new : List Thread) (path′ : ℕ → Path) → added p pool (stepOf path o) ≡ some new → Stands m′ (new ++ pool) path′
+            → (b : Bool) → within m′ ≡ b → fits m (takenIn p m o) ≡ b → AnswerIs p m pool path o (answer p m o)
+        decided m′ e new path′ allowed k true w f = rw (e, w, answer) (taken new path′ m′ (moved-names p m pool path h o m′ e) allowed f (stands-for k))
+        decided m′ e new path′ allowed k false w f = rw (e, w, answer) (too-large new (moved-names p m pool path h o m′ e) allowed f)
+
+    go : (q : Option Machine) → moved p m o ≡ q → AnswerIs p m pool path o (answer p m o)
+    go none e = rw (e, answer) (not-allowed (λ there. refused-step p m pool path h o there e))
+    go (some m′) e = fitting m′ e (within m′) refl
+
+-- "a run ends in a state that stands for the pool that the steps of its accepted moves leave"
+pub run-shown : (p : Program) (os : List Order) → Shown p os
+unfolding run
+run-shown p os =
+    let e = from-begin p os in
+    record { steps = e .steps; follows = e .follows; path = e .last; stands = stands-for (e .stands); next = λ o. answer-is p (watched p begin os) (run p (e .steps)) (e .last) (e .stands) o }
+
+-- "What is promised of an accepted program's history holds of each run watched here"
+pub claims-watched : (p : Program) (flow comm : Table) → WellFormed p → So (keepsAll p flow comm)
+    → (word : Word) (n c : ℕ) → chanAt p c ≡ some n → Holds p flow (CanShare p) word (sendPlace p flow c) (receivePlace p flow c)
+    → (os : List Order) (maker : Path) → HistoryFits p (run p (run-shown p os .steps)) (made maker n) word
+claims-watched p flow comm well keeps word n c chan holds os maker = claims-hold p flow comm well keeps word n c chan holds (run-shown p os .steps) maker

@@ -21,20 +21,17 @@ use Rattle.program.proofs.Maybe.{bind-elim}
 use Rattle.program.proofs.WellFormed.{WellFormed}
 use Rattle.machine.specs.declared.ThreadRecord.{ThreadRecord}
 use Rattle.machine.specs.Machine.{Machine, threadAt, begin, Order, alone, together, moved, within, Answer, refused, accepted, answer, left, watched}
+use Rattle.machine.specs.Meaning.{ownAt, envAt, returnsAt, stateIn, Marks, memoryOf, states}
+use Rattle.machine.specs.Standing.{StandsFor, Follows, done, refuses, accepts, Lined, firstPath, stepOf, Names}
 use Rattle.machine.proofs.Flat.{flat, flat-moved}
 use Rattle.machine.proofs.Like.{Like, neither, both}
-use Rattle.machine.proofs.Meaning.{ownAt, envAt, returnsAt, stateIn, ThreadIn}
-use Rattle.machine.proofs.Changes.{Marks, memoryOf, Meant}
+use Rattle.machine.proofs.Meaning.{ThreadIn}
+use Rattle.machine.proofs.Changes.{Meant}
 use Rattle.machine.proofs.Leaves.{samePath, no-some, leaf-state}
-use Rattle.machine.proofs.Lined.{Lined}
-use Rattle.machine.proofs.Stands.{Stands, states, same-some, own-like}
+use Rattle.machine.proofs.Stands.{Stands, same-some, own-like}
 use Rattle.machine.proofs.Meetings.{meet-like}
 
 -- ---- the beginning
-
--- thread 0 is on the empty path
-unfoldable pub firstPath : ℕ → Path
-firstPath n = ε
 
 abbrev firstThread : ThreadRecord
 firstThread = record { row = 0; cell = 0; frame = 0 }
@@ -89,16 +86,6 @@ begin-stands p = record {
 
 -- ---- one move
 
--- the step of a move, by the paths of its threads
-unfoldable pub stepOf : (ℕ → Path) → Order → Step
-stepOf path (alone n) = own (path n)
-stepOf path (together sender receiver) = meet (path sender) (path receiver)
-
--- the threads that a move names are there
-abbrev pub Names : Machine → Order → Type 0
-Names m (alone n) = (t : ThreadRecord) × (threadAt (m .threads) n ≡ some t)
-Names m (together sender receiver) = ((s : ThreadRecord) × (threadAt (m .threads) sender ≡ some s)) × ((r : ThreadRecord) × (threadAt (m .threads) receiver ≡ some r))
-
 module _ (p : Program) (m : Machine) (pool : Pool) (path : ℕ → Path) (h : Stands m pool path) where
   -- a move of threads that are there is allowed exactly if its step is, and then stands for it
   pub move-like : (o : Order) → Names m o → Like (λ m′ ts. (path′ : ℕ → Path) × Stands m′ (ts ++ pool) path′) (moved p m o) (added p pool (stepOf path o))
@@ -141,37 +128,10 @@ module _ (p : Program) (m : Machine) (pool : Pool) (path : ℕ → Path) (h : St
 
 -- ---- a list of moves
 
--- the steps of moves: one for each that is accepted, by the paths that its threads then have. 30 is given where the step isn't allowed, and the machine stands for the pool all along
+pub stands-for : {m : Machine} {pool : Pool} {path : ℕ → Path} → Stands m pool path → StandsFor m pool path
+stands-for h = record { marks = h .marks; memory-is = h .same; threads-are = h .lined; instances-are = h .apart }
+
 module _ (p : Program) where
-  pub data Steps : Machine → Pool → (ℕ → Path) → List Order → List Step → Type 0 where
-    done : {m : Machine} {pool : Pool} {path : ℕ → Path} → Stands m pool path → Steps m pool path [] []
-    refuses : {m : Machine} {pool : Pool} {path : ℕ → Path} {o : Order} {os : List Order} {ss : List Step} (n : ℕ) → Stands m pool path → answer p m o ≡ refused n
-        → (n ≡ 30 → Names m o → added p pool (stepOf path o) ≡ none) → Steps m pool path os ss → Steps m pool path (o ∷ os) ss
-    accepts : {m : Machine} {pool : Pool} {path : ℕ → Path} {o : Order} {os : List Order} {ss : List Step} (m′ : Machine) (path′ : ℕ → Path) (ts : List Thread) → Stands m pool path
-        → answer p m o ≡ accepted m′ → added p pool (stepOf path o) ≡ some ts → Steps m′ (ts ++ pool) path′ os ss → Steps m pool path (o ∷ os) (stepOf path o ∷ ss)
-
-  pub steps-of : (os : List Order) (m : Machine) (pool : Pool) (path : ℕ → Path) → Stands m pool path → (ss : List Step) × Steps m pool path os ss
-  unfolding answer
-  steps-of [] m pool path h = ([], done h)
-  steps-of (o ∷ os) m pool path h = go (moved p m o) refl (λ m′ pool′ path′ k. steps-of os m′ pool′ path′ k)
-    where
-      refusing : (n : ℕ) → answer p m o ≡ refused n → (n ≡ 30 → Names m o → added p pool (stepOf path o) ≡ none) → ((ss : List Step) × Steps m pool path os ss) → (ss : List Step) × Steps m pool path (o ∷ os) ss
-      refusing n e f (ss, k) = (ss, refuses n h e f k)
-
-      accepting : (m′ : Machine) → moved p m o ≡ some m′ → answer p m o ≡ accepted m′ → ((m′ : Machine) (pool′ : Pool) (path′ : ℕ → Path) → Stands m′ pool′ path′ → (ss : List Step) × Steps m′ pool′ path′ os ss) → (ss : List Step) × Steps m pool path (o ∷ os) ss
-      accepting m′ e f rest =
-          let (ts, path′, allowed, k) = accepted-step p m pool path h o m′ e in
-          let (ss, l) = rest m′ (ts ++ pool) path′ k in
-          (stepOf path o ∷ ss, accepts m′ path′ ts h f allowed l)
-
-      fitting : (m′ : Machine) → moved p m o ≡ some m′ → (b : Bool) → within m′ ≡ b → ((m′ : Machine) (pool′ : Pool) (path′ : ℕ → Path) → Stands m′ pool′ path′ → (ss : List Step) × Steps m′ pool′ path′ os ss) → (ss : List Step) × Steps m pool path (o ∷ os) ss
-      fitting m′ e true q rest = accepting m′ e (rw (e, answer, q)) rest
-      fitting m′ e false q rest = refusing 31 (rw (e, answer, q)) (λ z. absurd (omega arith)) (rest m pool path h)
-
-      go : (q : Option Machine) → moved p m o ≡ q → ((m′ : Machine) (pool′ : Pool) (path′ : ℕ → Path) → Stands m′ pool′ path′ → (ss : List Step) × Steps m′ pool′ path′ os ss) → (ss : List Step) × Steps m pool path (o ∷ os) ss
-      go none e rest = refusing 30 (rw (e, answer)) (λ _ there. refused-step p m pool path h o there e) (rest m pool path h)
-      go (some m′) e rest = fitting m′ e (within m′) refl rest
-
   left-refused : (m : Machine) (o : Order) (n : ℕ) → answer p m o ≡ refused n → left p m o ≡ m
   unfolding left
   left-refused m o n e = rw (e, left)
@@ -184,31 +144,45 @@ module _ (p : Program) where
   unfolding step
   step-adds pool s ts e = rw (e, step)
 
-  pub steps-stand : {m : Machine} {pool : Pool} {path : ℕ → Path} {os : List Order} {ss : List Step} → Steps m pool path os ss → (path′ : ℕ → Path) × Stands (watched p m os) (after p pool ss) path′
-  unfolding watched after
-  steps-stand (done {path = path} h) = (path, h)
-  steps-stand (refuses {m = m} {pool = pool} {o = o} {os = os} {ss = ss} n h e f k) =
-      let (path′, l) = steps-stand k in (path′, subst (λ x. Stands (watched p x os) (after p pool ss) path′) (sym (left-refused m o n e)) l)
-  steps-stand (accepts {m = m} {pool = pool} {path = path} {o = o} {os = os} {ss = ss} m′ _ ts h e allowed k) =
-      let (path′, l) = steps-stand k in
-      (path′, subst (λ x. Stands (watched p x os) (after p (step p pool (stepOf path o)) ss) path′) (sym (left-accepted m o m′ e)) (subst (λ x. Stands (watched p m′ os) (after p x ss) path′) (sym (step-adds pool (stepOf path o) ts allowed)) l))
-
-  -- "a run ends in a state that stands for the pool that the steps of its accepted moves leave, thread for leaf, instance for instance"
-  pub record Shown (os : List Order) : Type 0 where
+  -- the steps of the moves, and that the machine which they leave stands for the pool which the steps leave
+  pub record Ends (m : Machine) (pool : Pool) (path : ℕ → Path) (os : List Order) : Type 0 where
     pub steps : List Step
-    pub path : ℕ → Path
-    pub taken : Steps begin (startPool p) firstPath os steps
-    pub stands : Stands (watched p begin os) (run p steps) path
+    pub follows : Follows p m pool path os steps
+    pub last : ℕ → Path
+    pub stands : Stands (watched p m os) (after p pool steps) last
 
-  pub run-shown : (os : List Order) → Shown os
-  unfolding run
-  run-shown os =
-      let (ss, taken) = steps-of os begin (startPool p) firstPath (begin-stands p) in
-      let (path, h) = steps-stand taken in
-      record { steps = ss; path = path; taken = taken; stands = h }
+  pub ends : (os : List Order) (m : Machine) (pool : Pool) (path : ℕ → Path) → Stands m pool path → Ends m pool path os
+  unfolding answer watched after
+  ends [] m pool path h = record { steps = []; follows = done (stands-for h); last = path; stands = h }
+  ends (o ∷ os) m pool path h = go (moved p m o) refl (λ m′ pool′ path′ k. ends os m′ pool′ path′ k)
+    where
+      refusing : (n : ℕ) → answer p m o ≡ refused n → Ends m pool path os → Ends m pool path (o ∷ os)
+      refusing n e k = record {
+        steps = k .steps;
+        follows = refuses n (stands-for h) e (k .follows);
+        last = k .last;
+        stands = subst (λ x. Stands (watched p x os) (after p pool (k .steps)) (k .last)) (sym (left-refused m o n e)) (k .stands);
+      }
 
--- "What is promised of an accepted program's history holds of each run watched here"
-pub claims-watched : (p : Program) (flow comm : Table) → WellFormed p → So (keepsAll p flow comm)
-    → (word : Word) (n c : ℕ) → chanAt p c ≡ some n → Holds p flow (CanShare p) word (sendPlace p flow c) (receivePlace p flow c)
-    → (os : List Order) (maker : Path) → HistoryFits p (run p (run-shown p os .steps)) (made maker n) word
-claims-watched p flow comm well keeps word n c chan holds os maker = claims-hold p flow comm well keeps word n c chan holds (run-shown p os .steps) maker
+      accepting : (m′ : Machine) → moved p m o ≡ some m′ → answer p m o ≡ accepted m′ → ((m′ : Machine) (pool′ : Pool) (path′ : ℕ → Path) → Stands m′ pool′ path′ → Ends m′ pool′ path′ os) → Ends m pool path (o ∷ os)
+      accepting m′ e f rest =
+          let (ts, path′, allowed, k) = accepted-step p m pool path h o m′ e in
+          let l = rest m′ (ts ++ pool) path′ k in
+          record {
+            steps = stepOf path o ∷ l .steps;
+            follows = accepts m′ path′ ts (stands-for h) f allowed (l .follows);
+            last = l .last;
+            stands = subst (λ x. Stands (watched p x os) (after p (step p pool (stepOf path o)) (l .steps)) (l .last)) (sym (left-accepted m o m′ f))
+                (subst (λ x. Stands (watched p m′ os) (after p x (l .steps)) (l .last)) (sym (step-adds pool (stepOf path o) ts allowed)) (l .stands));
+          }
+
+      fitting : (m′ : Machine) → moved p m o ≡ some m′ → (b : Bool) → within m′ ≡ b → ((m′ : Machine) (pool′ : Pool) (path′ : ℕ → Path) → Stands m′ pool′ path′ → Ends m′ pool′ path′ os) → Ends m pool path (o ∷ os)
+      fitting m′ e true q rest = accepting m′ e (rw (e, answer, q)) rest
+      fitting m′ e false q rest = refusing 31 (rw (e, answer, q)) (rest m pool path h)
+
+      go : (q : Option Machine) → moved p m o ≡ q → ((m′ : Machine) (pool′ : Pool) (path′ : ℕ → Path) → Stands m′ pool′ path′ → Ends m′ pool′ path′ os) → Ends m pool path (o ∷ os)
+      go none e rest = refusing 30 (rw (e, answer)) (rest m pool path h)
+      go (some m′) e rest = fitting m′ e (within m′) refl rest
+
+  pub from-begin : (os : List Order) → Ends begin (startPool p) firstPath os
+  from-begin os = ends os begin (startPool p) firstPath (begin-stands p)

@@ -1,0 +1,2 @@
+-- Laws about opening a run.
+pub mod RunOpening
