@@ -1,0 +1,2 @@
+-- Laws about the run calls on records by value.
+pub mod RunMoves
