@@ -117,10 +117,13 @@ module _ (store run : Bytes) (lent : ℕ) (ts : List ThreadRecord) where
             let t : soundRun (decode fixed .rows) run ts ≡ true = ap (λ (p : Program). soundRun p run ts) program ∙ s in
             let opened : runOpened store run lent ts ≡ accepted (decode fixed .rows) = rw (long, passes .filled, begun, passes .is-sound, t) in
             let told = opened-told store run lent ts (decode fixed .rows) opened in
-            subst (λ (x : Result Program). RunOpenedIs x fixed run ts (Opened.Rows rows)) (sym opened)
-            (rows, refl, record {
-              program-is = program;
-              size = length-take-le storeSize store (told .long .store-long);
-              lends = is-lent store run lent ts (decode fixed .rows) told l;
-              limits = is-limited store run lent ts (decode fixed .rows) told;
-            })
+            subst (λ (x : Result Program). RunOpenedIs x fixed run ts (Opened.Rows rows)) (sym opened) (
+              rows,
+              refl,
+              record {
+                program-is = program;
+                size = length-take-le storeSize store (told .long .store-long);
+                lends = is-lent store run lent ts (decode fixed .rows) told l;
+                limits = is-limited store run lent ts (decode fixed .rows) told;
+              },
+            )

@@ -1,0 +1,2 @@
+-- Every answer of the run calls is packed without loss.
+pub mod RunLossless
