@@ -1,11 +1,19 @@
-// The checker's calls as C functions on numbers and byte slices; `include/dispenser.h` declares them.
+// The checker's calls as C functions on numbers, byte slices and a list of thread records; `include/dispenser.h` declares them.
 // A slice is a pointer and a length. An answer is one number, packed as `Packing` of crate packing says.
+use machine::ThreadRecord;
+use packed_run::begun;
+use packed_run::met;
+use packed_run::moved;
+use thread_records::put_records;
+use thread_records::records_in;
 ghost use mathlib.Core.Path.{_≡_};
 ghost use Rattle.calls.specs.Layout.{storeSize};
 ghost use Rattle.calls.specs.Calls.{load, judge, verdict, write};
 ghost use Rattle.inference.specs.Inference.{infer};
 ghost use Rattle.report.specs.Report.{reportLimit, reported};
 ghost use Rattle.calls.specs.Answers.{loadAnswer, judgeAnswer, verdictAnswer, writeAnswer};
+ghost use Rattle.run_memory.specs.RunMemory.{runSize};
+ghost use Rattle.run_calls.specs.RunCalls.{runAnswer, begin, move, meet};
 ghost use Rattle.packing.specs.Packing.{packed, countBits, wordBits, numberBits};
 
 // The bytes that a store must have.
@@ -77,4 +85,68 @@ pub extern "C" fn dispenser_report(file: &[u8], store: &mut [u8], out: &mut [u8]
     ensures { λ _. ⌜ now (out .exit) ≡ reported (now (file .entry)) (now (store .entry)) (now (out .entry)) .out ⌝ }
 {
     packed_report::report(file, store, out)
+}
+
+// The bytes that run memory must have.
+#[no_mangle]
+pub extern "C" fn dispenser_run_size() -> u64
+    ensures { λ n. ⌜ n ≡ runSize ⌝ }
+{
+    packed_run::run_size()
+}
+
+// Begins a run of a store's program in the lent run memory and thread records: the threads in use, which is 1.
+#[no_mangle]
+pub extern "C" fn dispenser_begin(store: &[u8], run: &mut [u8], threads: &mut [ThreadRecord]) -> u64
+    ensures { λ n. ⌜ n ≡ packed numberBits (runAnswer (begin (now (store .entry)) (now (run .entry)) (now (threads .entry)) .answer)) ⌝ }
+    ensures { λ _. ⌜ now (run .exit) ≡ begin (now (store .entry)) (now (run .entry)) (now (threads .entry)) .run ⌝ }
+    ensures { λ _. ⌜ now (threads .exit) ≡ begin (now (store .entry)) (now (run .entry)) (now (threads .entry)) .threads ⌝ }
+{
+    let records = records_in(threads);
+    let left = begun(store, run, records);
+    let after = left.records;
+    let answer = left.answer;
+    put_records(threads, after);
+    answer
+}
+
+// A thread's own move: the threads then in use.
+#[no_mangle]
+pub extern "C" fn dispenser_move(
+    store: &[u8],
+    run: &mut [u8],
+    threads: &mut [ThreadRecord],
+    thread: usize,
+) -> u64
+    ensures { λ n. ⌜ n ≡ packed numberBits (runAnswer (move (now (store .entry)) (now (run .entry)) (now (threads .entry)) thread .answer)) ⌝ }
+    ensures { λ _. ⌜ now (run .exit) ≡ move (now (store .entry)) (now (run .entry)) (now (threads .entry)) thread .run ⌝ }
+    ensures { λ _. ⌜ now (threads .exit) ≡ move (now (store .entry)) (now (run .entry)) (now (threads .entry)) thread .threads ⌝ }
+{
+    let records = records_in(threads);
+    let left = moved(store, run, records, thread);
+    let after = left.records;
+    let answer = left.answer;
+    put_records(threads, after);
+    answer
+}
+
+// A sending and a receiving thread that meet: the threads then in use.
+#[no_mangle]
+pub extern "C" fn dispenser_meet(
+    store: &[u8],
+    run: &mut [u8],
+    threads: &mut [ThreadRecord],
+    sender: usize,
+    receiver: usize,
+) -> u64
+    ensures { λ n. ⌜ n ≡ packed numberBits (runAnswer (meet (now (store .entry)) (now (run .entry)) (now (threads .entry)) sender receiver .answer)) ⌝ }
+    ensures { λ _. ⌜ now (run .exit) ≡ meet (now (store .entry)) (now (run .entry)) (now (threads .entry)) sender receiver .run ⌝ }
+    ensures { λ _. ⌜ now (threads .exit) ≡ meet (now (store .entry)) (now (run .entry)) (now (threads .entry)) sender receiver .threads ⌝ }
+{
+    let records = records_in(threads);
+    let left = met(store, run, records, sender, receiver);
+    let after = left.records;
+    let answer = left.answer;
+    put_records(threads, after);
+    answer
 }

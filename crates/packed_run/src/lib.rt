@@ -7,11 +7,10 @@ use run_calls::RunAnswer;
 use run_memory::Run;
 use thread_records::Records;
 ghost use mathlib.Core.Path.{_≡_};
-ghost use Rattle.machine.specs.Machine.{alone, together};
 ghost use Rattle.run_memory.specs.RunMemory.{runSize};
-ghost use Rattle.run_calls.specs.RunCalls.{runAnswer, beginOn, moveOn};
+ghost use Rattle.run_calls.specs.RunCalls.{runAnswer};
 ghost use Rattle.packing.specs.Packing.{packed, numberBits, Lossless};
-ghost use Rattle.packed_run.specs.PackedRun.{PackedLeaves};
+ghost use Rattle.packed_run.specs.PackedRun.{BegunIs, MovedIs, MetIs};
 
 // The answer as one number, and the thread records after the call.
 pub struct RunLeft {
@@ -38,46 +37,46 @@ fn pack_run(answer: RunAnswer) -> u64
 }
 
 // Begins a run: the threads in use, which is 1.
-pub fn begin(store: &[u8], run: &mut [u8], records: Records) -> RunLeft
-    ensures { λ x. ⌜ PackedLeaves (beginOn (now (store .entry)) (now (run .entry)) (records .lent) (records .list)) x (now (run .exit)) ⌝ }
+pub fn begun(store: &[u8], run: &mut [u8], records: Records) -> RunLeft
+    ensures { λ x. ⌜ BegunIs (now (store .entry)) (now (run .entry)) records x (now (run .exit)) ⌝ }
 {
-    let moved = begin_run(store, run, records);
-    let answer = moved.answer;
-    let after = moved.records;
+    let after = begin_run(store, run, records);
+    let answer = after.answer;
+    let records = after.records;
     RunLeft {
         answer: pack_run(answer),
-        records: after,
+        records: records,
     }
 }
 
 // A thread's own move: the threads then in use.
-pub fn move_alone(store: &[u8], run: &mut [u8], records: Records, thread: usize) -> RunLeft
-    ensures { λ x. ⌜ PackedLeaves (moveOn (now (store .entry)) (now (run .entry)) (records .lent) (records .list) (alone thread)) x (now (run .exit)) ⌝ }
+pub fn moved(store: &[u8], run: &mut [u8], records: Records, thread: usize) -> RunLeft
+    ensures { λ x. ⌜ MovedIs (now (store .entry)) (now (run .entry)) records thread x (now (run .exit)) ⌝ }
 {
-    let moved = move_thread(store, run, records, thread);
-    let answer = moved.answer;
-    let after = moved.records;
+    let after = move_thread(store, run, records, thread);
+    let answer = after.answer;
+    let records = after.records;
     RunLeft {
         answer: pack_run(answer),
-        records: after,
+        records: records,
     }
 }
 
 // A meeting: the threads then in use.
-pub fn meet(
+pub fn met(
     store: &[u8],
     run: &mut [u8],
     records: Records,
     sender: usize,
     receiver: usize,
 ) -> RunLeft
-    ensures { λ x. ⌜ PackedLeaves (moveOn (now (store .entry)) (now (run .entry)) (records .lent) (records .list) (together sender receiver)) x (now (run .exit)) ⌝ }
+    ensures { λ x. ⌜ MetIs (now (store .entry)) (now (run .entry)) records sender receiver x (now (run .exit)) ⌝ }
 {
-    let moved = meet_threads(store, run, records, sender, receiver);
-    let answer = moved.answer;
-    let after = moved.records;
+    let after = meet_threads(store, run, records, sender, receiver);
+    let answer = after.answer;
+    let records = after.records;
     RunLeft {
         answer: pack_run(answer),
-        records: after,
+        records: records,
     }
 }

@@ -2,10 +2,10 @@
 use mathlib.Core.Path.{refl}
 use Rattle.packed_run.proofs.RunLossless.{begin-lossless, packed-leaves}
 use borrow.Author.Needs.{needs}
-use Rattle.packed_run.proofs.begin.Statement.{statement}
-use Rattle.packed_run.proofs.begin.Tie as tie
-use Rattle.packed_run.proofs.begin.Reads as reads
-use Rattle.packed_run.proofs.begin.Lts as lts
+use Rattle.packed_run.proofs.begun.Statement.{statement}
+use Rattle.packed_run.proofs.begun.Tie as tie
+use Rattle.packed_run.proofs.begun.Reads as reads
+use Rattle.packed_run.proofs.begun.Lts as lts
 use Rattle.call_run.proofs.begin_run.Reads as begin-run-reads
 use Rattle.packed_run.proofs.pack_run.Reads as pack-run-reads
 
@@ -25,5 +25,5 @@ same-length c = search needs
 returns : tie.Need-returns
 returns c = packed-leaves (c .before .before .before .before .begin-run .ensures) (c .pack-run .ensures) refl
 
-pub begin-spec : {M : Type 1} → statement M
-begin-spec = tie.close (tie.spec begin-run-requires pack-run-requires same-length returns)
+pub begun-spec : {M : Type 1} → statement M
+begun-spec = tie.close (tie.spec begin-run-requires pack-run-requires same-length returns)

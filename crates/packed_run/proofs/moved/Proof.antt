@@ -2,10 +2,10 @@
 use mathlib.Core.Path.{refl}
 use Rattle.packed_run.proofs.RunLossless.{move-lossless, packed-leaves}
 use borrow.Author.Needs.{needs}
-use Rattle.packed_run.proofs.move_alone.Statement.{statement}
-use Rattle.packed_run.proofs.move_alone.Tie as tie
-use Rattle.packed_run.proofs.move_alone.Reads as reads
-use Rattle.packed_run.proofs.move_alone.Lts as lts
+use Rattle.packed_run.proofs.moved.Statement.{statement}
+use Rattle.packed_run.proofs.moved.Tie as tie
+use Rattle.packed_run.proofs.moved.Reads as reads
+use Rattle.packed_run.proofs.moved.Lts as lts
 use Rattle.call_run.proofs.move_thread.Reads as move-thread-reads
 use Rattle.packed_run.proofs.pack_run.Reads as pack-run-reads
 
@@ -25,5 +25,5 @@ same-length c = search needs
 returns : tie.Need-returns
 returns c = packed-leaves (c .before .before .before .before .move-thread .ensures) (c .pack-run .ensures) refl
 
-pub move-alone-spec : {M : Type 1} → statement M
-move-alone-spec = tie.close (tie.spec move-thread-requires pack-run-requires same-length returns)
+pub moved-spec : {M : Type 1} → statement M
+moved-spec = tie.close (tie.spec move-thread-requires pack-run-requires same-length returns)

@@ -2,10 +2,10 @@
 use mathlib.Core.Path.{refl}
 use Rattle.packed_run.proofs.RunLossless.{move-lossless, packed-leaves}
 use borrow.Author.Needs.{needs}
-use Rattle.packed_run.proofs.meet.Statement.{statement}
-use Rattle.packed_run.proofs.meet.Tie as tie
-use Rattle.packed_run.proofs.meet.Reads as reads
-use Rattle.packed_run.proofs.meet.Lts as lts
+use Rattle.packed_run.proofs.met.Statement.{statement}
+use Rattle.packed_run.proofs.met.Tie as tie
+use Rattle.packed_run.proofs.met.Reads as reads
+use Rattle.packed_run.proofs.met.Lts as lts
 use Rattle.call_run.proofs.meet_threads.Reads as meet-threads-reads
 use Rattle.packed_run.proofs.pack_run.Reads as pack-run-reads
 
@@ -25,5 +25,5 @@ same-length c = search needs
 returns : tie.Need-returns
 returns c = packed-leaves (c .before .before .before .before .meet-threads .ensures) (c .pack-run .ensures) refl
 
-pub meet-spec : {M : Type 1} → statement M
-meet-spec = tie.close (tie.spec meet-threads-requires pack-run-requires same-length returns)
+pub met-spec : {M : Type 1} → statement M
+met-spec = tie.close (tie.spec meet-threads-requires pack-run-requires same-length returns)
