@@ -2,9 +2,10 @@
  *
  * Build: rt staticlib dispenser_c; link target/staticlib/libdispenser_c.a.
  *
- * A byte slice is a pointer, never NULL, and the count of bytes there. No one
- * else may write a slice's bytes during a call, and a slice that a call writes
- * must not overlap its other slices.
+ * A byte slice is a pointer, never NULL, and the count of bytes there; a list of
+ * thread records is a pointer, never NULL and aligned for them, and the count of
+ * records there. No one else may write a slice's bytes or a list's records during
+ * a call, and what a call writes must not overlap what else it is lent.
  *
  * Every call returns one number. Its low 8 bits are 0 where the call is
  * accepted, else they are the number of the refusal. Above them:
@@ -16,6 +17,8 @@
  *                     lowest first, 1 for yes
  *   write accepted    the bytes written
  *   report accepted   the bytes written
+ *   begin, move and meet accepted
+ *                     the number of threads then in use
  */
 #ifndef DISPENSER_H
 #define DISPENSER_H
@@ -61,6 +64,71 @@ uint64_t dispenser_report_size(void);
 uint64_t dispenser_report(const uint8_t *file, size_t file_length,
                           uint8_t *store, size_t store_length,
                           uint8_t *out, size_t out_length);
+
+/* A run of a store's program takes run memory and thread records, lent together
+ * to each of its calls. It stands on the rows of the program: the calls say
+ * something of it while those stay the same and nothing but these calls writes
+ * what it was lent. It needs no tables, and they may break the flow rules. */
+
+/* The most threads in use, and the thread records that a run must have; it may
+ * have more, which no call touches. */
+#define DISPENSER_THREADS 64
+
+/* A thread of a run. Threads are numbered from 0 by birth, and each has the
+ * record of its number; a record that no thread has is not looked at. A thread
+ * stands at the row of its record; what cell and frame mean is the library's
+ * affair. */
+struct dispenser_thread {
+    uint8_t row;
+    uint16_t cell;
+    uint16_t frame;
+};
+
+#if defined(__cplusplus)
+#if __cplusplus >= 201103L
+#define DISPENSER_ASSERT(holds, why) static_assert(holds, why)
+#endif
+#elif defined(__STDC_VERSION__) && __STDC_VERSION__ >= 201112L
+#define DISPENSER_ASSERT(holds, why) _Static_assert(holds, why)
+#endif
+#ifdef DISPENSER_ASSERT
+DISPENSER_ASSERT(sizeof(struct dispenser_thread) == 6, "a record has 6 bytes");
+DISPENSER_ASSERT(offsetof(struct dispenser_thread, row) == 0, "row at 0");
+DISPENSER_ASSERT(offsetof(struct dispenser_thread, cell) == 2, "cell at 2");
+DISPENSER_ASSERT(offsetof(struct dispenser_thread, frame) == 4, "frame at 4");
+#undef DISPENSER_ASSERT
+#endif
+
+/* The bytes that run memory must have (40,968); it may have more, which no call
+ * touches. */
+uint64_t dispenser_run_size(void);
+
+/* Begins a run: thread 0 stands at row 0, and nothing else is in use, whatever
+ * the run memory and the records held. Refusals 20 to 22: the store, the run
+ * memory or the records are too short; the store is empty; it is unsound. A call
+ * that is refused alters nothing, here and below. */
+uint64_t dispenser_begin(const uint8_t *store, size_t store_length,
+                         uint8_t *run, size_t run_length,
+                         struct dispenser_thread *threads,
+                         size_t threads_length);
+
+/* A thread's own move. Refusals 20 to 22 as above, where a run that is not begun
+ * is 21, and run memory or records that no begin and moves leave may be 22; 30:
+ * the run rules allow no such move, or there is no such thread; 31: the move
+ * would take more than 4,096 cells, 1,024 frames or 64 threads. */
+uint64_t dispenser_move(const uint8_t *store, size_t store_length,
+                        uint8_t *run, size_t run_length,
+                        struct dispenser_thread *threads,
+                        size_t threads_length,
+                        size_t thread);
+
+/* A meeting: one thread sends and another receives, on one channel. Refusals as
+ * those of move. */
+uint64_t dispenser_meet(const uint8_t *store, size_t store_length,
+                        uint8_t *run, size_t run_length,
+                        struct dispenser_thread *threads,
+                        size_t threads_length,
+                        size_t sender, size_t receiver);
 
 #ifdef __cplusplus
 }

@@ -6,6 +6,10 @@
 
 #[allow(unsafe_code)]
 pub mod ffi;
+mod run;
+
+pub use ffi::Thread;
+pub use run::{Move, Run};
 
 use std::fmt;
 
@@ -18,7 +22,7 @@ const STATUS_BITS: u32 = 8;
 /// Four yes or no: one-shot, one-to-one, fan-out, fan-in.
 pub type Verdict = [bool; 4];
 
-/// Why a call was turned back: the numbers of document 01.
+/// Why a call was turned back: the numbers of documents 01 and 02.
 #[derive(Clone, Copy, Debug, PartialEq, Eq, PartialOrd, Ord)]
 pub enum Reason {
     FileTooLong = 1,
@@ -37,10 +41,12 @@ pub enum Reason {
     StoreUnsound = 22,
     OutputTooShort = 23,
     NotAChannel = 24,
+    MoveNotAllowed = 30,
+    MoveTooLarge = 31,
 }
 
 impl Reason {
-    pub const ALL: [Reason; 16] = [
+    pub const ALL: [Reason; 18] = [
         Reason::FileTooLong,
         Reason::NotALine,
         Reason::NumberAboveLimit,
@@ -57,6 +63,8 @@ impl Reason {
         Reason::StoreUnsound,
         Reason::OutputTooShort,
         Reason::NotAChannel,
+        Reason::MoveNotAllowed,
+        Reason::MoveTooLarge,
     ];
 
     /// The reason's number.
@@ -86,11 +94,15 @@ impl fmt::Display for Reason {
             Reason::Misnamed => "a row or name is named that may not stand here",
             Reason::FlowRule => "the tables break the flow rule of this row",
             Reason::Claim => "the claim does not hold",
-            Reason::StoreTooShort => "the store is shorter than its fixed size",
-            Reason::StoreEmpty => "the store is empty",
-            Reason::StoreUnsound => "the store holds bytes that no load leaves",
+            Reason::StoreTooShort => "the store, or a run's memory, is shorter than its fixed size",
+            Reason::StoreEmpty => "the store is empty, or the run not begun",
+            Reason::StoreUnsound => {
+                "the store holds bytes that no load leaves, or the run names what is not there"
+            }
             Reason::OutputTooShort => "the text does not fit the output",
             Reason::NotAChannel => "the number is not that of a chan row",
+            Reason::MoveNotAllowed => "the run rules do not allow the move",
+            Reason::MoveTooLarge => "the move needs more cells, frames or threads than there are",
         })
     }
 }

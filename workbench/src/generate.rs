@@ -7,10 +7,12 @@ mod damage;
 mod documents;
 mod hardest;
 mod limits;
+mod lively;
 mod program;
 mod scaled;
 mod structure;
 mod tables;
+mod written;
 
 pub use damage::{damage, damaged_file, edit_byte, edit_lines, edit_number, edit_set};
 pub use documents::{
@@ -19,10 +21,12 @@ pub use documents::{
 };
 pub use hardest::{hardest, hearing, sharing, takers, unwinding};
 pub use limits::{chain, file_of_length, full_document};
+pub use lively::{lively_document, some_step};
 pub use program::program;
 pub use scaled::{dense, shared, workers};
 pub use structure::{break_structure, structural_file};
 pub use tables::{narrow, widen, Tables};
+pub use written::Written;
 
 /// A splitmix64 source of numbers.
 pub struct Random {

@@ -11,6 +11,7 @@ pub mod explain;
 pub mod generate;
 pub mod layout;
 pub mod reference;
+pub mod runs;
 pub mod samples;
 pub mod text;
 pub mod tool;

@@ -1,4 +1,5 @@
-//! The tool for people: `workbench check FILE..`, `workbench infer FILE`.
+//! The tool for people: `workbench check FILE..`, `workbench infer FILE`,
+//! `workbench watch FILE`.
 
 use std::process::ExitCode;
 

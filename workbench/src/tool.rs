@@ -1,11 +1,12 @@
-//! The tool: what the proved checker says of files, and why; and files with
-//! their smallest tables.
+//! The tool: what the proved checker says of files, and why; files with their
+//! smallest tables; and runs, move by move.
 
 mod arguments;
 mod json;
 mod outcome;
 mod report;
 mod tables;
+mod watch;
 
 use std::io::{self, IsTerminal, Write};
 use std::path::{Path, PathBuf};
@@ -13,6 +14,7 @@ use std::process::ExitCode;
 
 use arguments::{parse, Command, USAGE};
 use outcome::{check, Outcome};
+use watch::Format;
 
 use crate::reference::document::MAX_FILE_BYTES;
 
@@ -43,6 +45,7 @@ pub fn main() -> ExitCode {
             })
         }
         Command::Infer { file, diff } => infer(&mut stdout, &file, diff),
+        Command::Watch(options) => watch(&mut stdout, &options),
     };
     match outcome {
         Ok(status) => ExitCode::from(status),
@@ -112,4 +115,35 @@ fn infer(out: &mut impl Write, file: &Path, diff: bool) -> io::Result<u8> {
         );
     }
     Ok(ACCEPTED)
+}
+
+/// Watches a run of a file's program. A file that cannot be loaded is reported as
+/// by check, but where a picture is asked for on standard error.
+fn watch(out: &mut impl Write, options: &watch::Options) -> io::Result<u8> {
+    let name = options.file.display().to_string();
+    let (program, judged) = match watch::load(&options.file) {
+        Ok(loaded) => loaded,
+        Err(outcome) => {
+            match options.format {
+                Format::Text => {
+                    let colours = io::stdout().is_terminal() && !no_color();
+                    out.write_all(report::text(&name, &outcome, colours).as_bytes())?;
+                }
+                Format::Json => out.write_all(json::line(&name, &outcome).as_bytes())?,
+                Format::Svg => {
+                    let colours = io::stderr().is_terminal() && !no_color();
+                    eprint!("{}", report::text(&name, &outcome, colours));
+                }
+            }
+            out.flush()?;
+            return Ok(status(&outcome));
+        }
+    };
+    if let Some(refusal) = judged {
+        eprintln!(
+            "workbench: {name}: check refuses this file with {refusal}; \
+             a run needs no tables, so it can be watched"
+        );
+    }
+    watch::watch(out, &program, options)
 }

@@ -1,7 +1,23 @@
 //! The C functions, each as a function on slices that gives the answer as it
 //! comes: one number of 64 bits.
 
+use std::mem::{align_of, offset_of, size_of};
 use std::os::raw::c_uchar;
+
+/// A thread of a run: `struct dispenser_thread`. It stands at the row; what cell
+/// and frame mean is the library's affair.
+#[repr(C)]
+#[derive(Clone, Copy, Debug, Default, PartialEq, Eq)]
+pub struct Thread {
+    pub row: u8,
+    pub cell: u16,
+    pub frame: u16,
+}
+
+// The layout that include/dispenser.h promises.
+const _: () = assert!(size_of::<Thread>() == 6 && align_of::<Thread>() == 2);
+const _: () = assert!(offset_of!(Thread, row) == 0);
+const _: () = assert!(offset_of!(Thread, cell) == 2 && offset_of!(Thread, frame) == 4);
 
 extern "C" {
     fn dispenser_store_size() -> u64;
@@ -29,11 +45,40 @@ extern "C" {
         out: *mut c_uchar,
         out_len: usize,
     ) -> u64;
+    fn dispenser_run_size() -> u64;
+    fn dispenser_begin(
+        store: *const c_uchar,
+        store_len: usize,
+        run: *mut c_uchar,
+        run_len: usize,
+        threads: *mut Thread,
+        threads_len: usize,
+    ) -> u64;
+    fn dispenser_move(
+        store: *const c_uchar,
+        store_len: usize,
+        run: *mut c_uchar,
+        run_len: usize,
+        threads: *mut Thread,
+        threads_len: usize,
+        thread: usize,
+    ) -> u64;
+    fn dispenser_meet(
+        store: *const c_uchar,
+        store_len: usize,
+        run: *mut c_uchar,
+        run_len: usize,
+        threads: *mut Thread,
+        threads_len: usize,
+        sender: usize,
+        receiver: usize,
+    ) -> u64;
 }
 
-// SAFETY, of all eight: pointer and length come from one slice, which stays
+// SAFETY, of all twelve: pointer and length come from one slice, which stays
 // borrowed for the call, mutably where the function writes; the functions touch
-// no other memory and keep no pointer (promise 1).
+// no other memory and keep no pointer (promise 1). A thread record has the layout
+// that they expect, and any bytes make one.
 
 /// The store's fixed size.
 pub fn store_size() -> u64 {
@@ -80,6 +125,62 @@ pub fn report(file: &[u8], store: &mut [u8], out: &mut [u8]) -> u64 {
             store.len(),
             out.as_mut_ptr(),
             out.len(),
+        )
+    }
+}
+
+/// The bytes that run memory must have.
+pub fn run_size() -> u64 {
+    unsafe { dispenser_run_size() }
+}
+
+/// Begins a run.
+pub fn begin(store: &[u8], run: &mut [u8], threads: &mut [Thread]) -> u64 {
+    unsafe {
+        dispenser_begin(
+            store.as_ptr(),
+            store.len(),
+            run.as_mut_ptr(),
+            run.len(),
+            threads.as_mut_ptr(),
+            threads.len(),
+        )
+    }
+}
+
+/// A thread's own move; `move` is a word of Rust.
+pub fn move_alone(store: &[u8], run: &mut [u8], threads: &mut [Thread], thread: usize) -> u64 {
+    unsafe {
+        dispenser_move(
+            store.as_ptr(),
+            store.len(),
+            run.as_mut_ptr(),
+            run.len(),
+            threads.as_mut_ptr(),
+            threads.len(),
+            thread,
+        )
+    }
+}
+
+/// A meeting of a sender and a receiver.
+pub fn meet(
+    store: &[u8],
+    run: &mut [u8],
+    threads: &mut [Thread],
+    sender: usize,
+    receiver: usize,
+) -> u64 {
+    unsafe {
+        dispenser_meet(
+            store.as_ptr(),
+            store.len(),
+            run.as_mut_ptr(),
+            run.len(),
+            threads.as_mut_ptr(),
+            threads.len(),
+            sender,
+            receiver,
         )
     }
 }

@@ -17,8 +17,15 @@ pub struct Tally {
 }
 
 impl Tally {
-    fn add(&mut self, call: &'static str, answer: u64) {
-        *self.answers.entry((call, answer as u8)).or_default() += 1;
+    pub(super) fn add(&mut self, call: &'static str, answer: u64) {
+        self.add_many(call, answer as u8, 1);
+    }
+
+    /// Adds so many calls that answered with a number.
+    pub(super) fn add_many(&mut self, call: &'static str, number: u8, count: usize) {
+        if count > 0 {
+            *self.answers.entry((call, number)).or_default() += count;
+        }
     }
 
     /// How often a call answered with a number, 0 for accepted.
@@ -35,7 +42,7 @@ impl Tally {
 }
 
 /// Fails with what differs, unless the answers are equal.
-fn same_answer(call: &str, answer: u64, expected: u64) -> Result<(), String> {
+pub(super) fn same_answer(call: &str, answer: u64, expected: u64) -> Result<(), String> {
     if answer == expected {
         return Ok(());
     }
@@ -45,7 +52,12 @@ fn same_answer(call: &str, answer: u64, expected: u64) -> Result<(), String> {
 }
 
 /// Fails unless a lent buffer holds the bytes expected between its guards.
-fn same_bytes(call: &str, buffer: &str, lent: &Lent, expected: &[u8]) -> Result<(), String> {
+pub(super) fn same_bytes(
+    call: &str,
+    buffer: &str,
+    lent: &Lent,
+    expected: &[u8],
+) -> Result<(), String> {
     if lent.holds(expected) {
         return Ok(());
     }

@@ -3,9 +3,13 @@
 use std::ffi::OsString;
 use std::path::PathBuf;
 
+use super::watch::{read_moves, Chosen, Format, Options};
+
 pub const USAGE: &str = "\
 usage: workbench check [--json] FILE..
        workbench infer [--diff] FILE
+       workbench watch [--random SEED [--moves N] | --replay MOVES]
+                       [--json | --svg] FILE
 
 check  Checks task files with the proved checker: whether the tables keep the
        flow rules and every claim holds. A file is accepted, with the verdict on
@@ -15,21 +19,40 @@ infer  Prints a task file with the smallest tables that keep the flow rules in
        place of its own, which may be any or none; rows and claims stay. A file
        that cannot be loaded is refused as check does, on standard error.
 
+watch  Runs the program of a task file with the proved checker, move by move, and
+       shows after each move where the threads stand, what each can do, which
+       threads wait at which channel, and the moves that are possible. A move is
+       chosen by its number, a line of standard input for each; `u` undoes the
+       last, `q` quits. At the end come the messages that went, and the moves as
+       --replay takes them. The file's tables and claims need not hold.
+
 The file `-` is standard input.
 
   --json   of check: one JSON object to a line for each file
   --diff   of infer: what changes, set by set, in place of the file; an empty
            set, which has no line in a file, is shown as []
+
+Of watch:
+
+  --random SEED   the moves are drawn at random, the same for the same seed
+  --moves N       of --random: N moves at most; else as many as there are
+  --replay MOVES  the moves are these: THREAD or SENDER+RECEIVER, with commas
+                  between, as in 0,0,1+0,2
+  --json          one JSON object to a line for the beginning, each move and the
+                  end
+  --svg           a picture of the threads and messages in place of the text
+
   --help   this text
 
-Exit status: 0 all accepted, or the tables found; 1 some refused; 2 bad usage or a
-file that cannot be read.";
+Exit status: 0 all accepted, the tables found, or the run watched; 1 some file or
+move refused; 2 bad usage or a file that cannot be read.";
 
 #[derive(Debug)]
 pub enum Command {
     Help,
     Check { files: Vec<PathBuf>, json: bool },
     Infer { file: PathBuf, diff: bool },
+    Watch(Options),
 }
 
 /// The command that the words ask for, or what is wrong with them.
@@ -47,6 +70,7 @@ pub fn parse(mut words: impl Iterator<Item = OsString>) -> Result<Command, Strin
                 .map_err(|files| format!("infer takes one file, not {}", files.len()))?;
             Ok(Command::Infer { file, diff })
         }),
+        Some("watch") => watch(words),
         _ => Err(format!("unknown command `{}`", command.display())),
     }
 }
@@ -74,4 +98,71 @@ fn on_files(
         return Err("no file given".to_string());
     }
     command(files, asked)
+}
+
+/// The watch that the words ask for.
+fn watch(mut words: impl Iterator<Item = OsString>) -> Result<Command, String> {
+    let (mut random, mut most, mut replay) = (None, None, None);
+    let (mut json, mut svg) = (false, false);
+    let mut files = vec![];
+    let mut options = true;
+    while let Some(word) = words.next() {
+        let is_option = options && word.len() > 1 && word.as_encoded_bytes()[0] == b'-';
+        let mut value = |option: &str| {
+            let value = words.next().ok_or(format!("{option} needs a value"))?;
+            let value = value.into_string();
+            value.map_err(|value| format!("{option} cannot be `{}`", value.display()))
+        };
+        match word.to_str() {
+            Some("--help" | "-h") if is_option => return Ok(Command::Help),
+            Some("--") if is_option => options = false,
+            Some("--json") if is_option => json = true,
+            Some("--svg") if is_option => svg = true,
+            Some("--random") if is_option => {
+                random = Some(number("--random", &value("--random")?)?)
+            }
+            Some("--moves") if is_option => most = Some(number("--moves", &value("--moves")?)?),
+            Some("--replay") if is_option => replay = Some(read_moves(&value("--replay")?)?),
+            _ if is_option => return Err(format!("unknown option `{}`", word.display())),
+            _ => files.push(PathBuf::from(word)),
+        }
+    }
+    let chosen = match (random, most, replay) {
+        (None, None, None) => Chosen::Asked,
+        (Some(seed), most, None) => Chosen::Random {
+            seed,
+            most: most.map_or(usize::MAX, |most| {
+                usize::try_from(most).unwrap_or(usize::MAX)
+            }),
+        },
+        (None, None, Some(moves)) => Chosen::Replay(moves),
+        (None, Some(_), _) => return Err("--moves goes with --random".to_string()),
+        (Some(_), _, Some(_)) => return Err("--random and --replay do not go together".to_string()),
+    };
+    let format = match (json, svg) {
+        (false, false) => Format::Text,
+        (true, false) => Format::Json,
+        (false, true) => Format::Svg,
+        (true, true) => return Err("--json and --svg do not go together".to_string()),
+    };
+    let [file] = <[PathBuf; 1]>::try_from(files).map_err(|files| match files.len() {
+        0 => "no file given".to_string(),
+        many => format!("watch takes one file, not {many}"),
+    })?;
+    if chosen == Chosen::Asked && file.as_os_str() == "-" {
+        let told = "the moves are read from standard input, so the file cannot be `-`";
+        return Err(told.to_string());
+    }
+    Ok(Command::Watch(Options {
+        file,
+        chosen,
+        format,
+    }))
+}
+
+/// The number that an option is given.
+fn number(option: &str, value: &str) -> Result<u64, String> {
+    let digits = value.bytes().all(|byte| byte.is_ascii_digit());
+    let number = digits.then(|| value.parse().ok()).flatten();
+    number.ok_or(format!("{option} needs a number, not `{value}`"))
 }

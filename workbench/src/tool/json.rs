@@ -1,4 +1,4 @@
-//! Outcomes as JSON, an object to a line for each file.
+//! Outcomes as JSON, an object to a line for each file; and the parts of JSON.
 
 use super::outcome::{Channel, Outcome};
 use crate::reference::document::Word;
@@ -63,18 +63,18 @@ fn channel(channel: &Channel) -> String {
     ])
 }
 
-fn object(fields: Vec<(&str, String)>) -> String {
+pub(super) fn object(fields: Vec<(&str, String)>) -> String {
     let fields = fields
         .iter()
         .map(|(key, value)| format!("{}: {value}", string(key)));
     format!("{{{}}}", fields.collect::<Vec<_>>().join(", "))
 }
 
-fn array(items: impl Iterator<Item = String>) -> String {
+pub(super) fn array(items: impl Iterator<Item = String>) -> String {
     format!("[{}]", items.collect::<Vec<_>>().join(", "))
 }
 
-fn string(text: &str) -> String {
+pub(super) fn string(text: &str) -> String {
     let mut quoted = String::from('"');
     for character in text.chars() {
         match character {

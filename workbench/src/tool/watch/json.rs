@@ -1,0 +1,168 @@
+//! A run as JSON, an object to a line: one for the beginning, one for each move,
+//! one for each move undone, and one for the end.
+//!
+//! `event` is `begin`, `move`, `undone` or `end`. The first three have
+//!
+//! - `threads`: for each thread, by number: `thread`, its `row` and the row's
+//!   `text`; `can`: `own`, `send`, `receive`, `done`, `stuck` or `limit` (only the
+//!   limits keep it from moving); `channel` (null elsewhere than at a channel) and
+//!   `meets`, the threads that it can meet there, none if it waits; `words`, all
+//!   that in words;
+//! - `channels`: those at which threads stand: `row`, `instance`, and the threads
+//!   that are `sending` and `receiving`;
+//! - `moves`: the moves that are possible, as `--replay` takes them.
+//!
+//! Besides, `begin` has `file`; `move` and `undone` have `number` and `move`, the
+//! move made or undone; `move` has the rows it went `from` (the sender's first),
+//! the thread `born` or null, and the `message` or null: `sender`, `receiver`,
+//! `channel` (`row` and `instance`) and `value`, in words.
+//!
+//! `end` has `moves`, how many were made; `left`, how many are possible; the
+//! threads that are `done`, that are `waiting` with nobody to meet, that are
+//! `stuck`, and that only the limits keep back (`limited`); the `messages`;
+//! `replay`, the moves made; and `refused`: null, or the `move` that was refused
+//! with its `number` and `reason`.
+
+use super::going::{Going, Message};
+use super::moves::{move_text, moves_text};
+use super::reading::{Channel, End};
+use super::text;
+use super::view::{Can, Seen, View};
+use super::Refused;
+use crate::checker::Move;
+use crate::tool::json::{array, object, string};
+
+/// What a line tells of.
+#[derive(Clone, Copy)]
+pub enum Event<'a> {
+    /// The beginning, with the file's name.
+    Begin(&'a str),
+    /// The last move.
+    Made,
+    Undone(Move),
+}
+
+fn null() -> String {
+    "null".to_string()
+}
+
+fn numbers(list: &[usize]) -> String {
+    array(list.iter().map(usize::to_string))
+}
+
+fn channel(channel: Option<Channel>) -> String {
+    channel.map_or_else(null, |Channel { row, instance }| {
+        object(vec![
+            ("row", row.to_string()),
+            ("instance", instance.to_string()),
+        ])
+    })
+}
+
+fn message(message: &Message) -> String {
+    object(vec![
+        ("sender", message.sender.to_string()),
+        ("receiver", message.receiver.to_string()),
+        ("channel", channel(message.channel)),
+        ("value", string(&message.value)),
+    ])
+}
+
+/// Where a run stands, and what led there.
+pub fn state(going: &mut Going, event: Event) -> String {
+    let view = going.view();
+    let number = going.made.len();
+    let mut fields = match (event, going.made.last()) {
+        (Event::Begin(file), _) => vec![("event", string("begin")), ("file", string(file))],
+        (Event::Undone(undone), _) => vec![
+            ("event", string("undone")),
+            ("number", (number + 1).to_string()),
+            ("move", string(&move_text(undone))),
+        ],
+        (Event::Made, None) => vec![("event", string("move"))],
+        (Event::Made, Some(made)) => vec![
+            ("event", string("move")),
+            ("number", number.to_string()),
+            ("move", string(&move_text(made.made))),
+            ("from", numbers(&made.from)),
+            ("born", made.born.map_or_else(null, |born| born.to_string())),
+            ("message", made.message.as_ref().map_or_else(null, message)),
+        ],
+    };
+    let threads = view.threads.iter().enumerate();
+    let threads = threads.map(|(thread, seen)| {
+        let text = going.program.row_text(seen.row);
+        self::thread(thread, seen, text)
+    });
+    fields.push(("threads", array(threads)));
+    fields.push(("channels", channels(&view)));
+    let moves = view.moves.iter().map(|(made, _)| string(&move_text(*made)));
+    fields.push(("moves", array(moves)));
+    object(fields) + "\n"
+}
+
+fn thread(thread: usize, seen: &Seen, text: &str) -> String {
+    let (can, at, meets): (_, _, &[usize]) = match &seen.can {
+        Can::Own => ("own", None, &[]),
+        Can::TooLarge => ("limit", None, &[]),
+        Can::Done => ("done", None, &[]),
+        Can::Stuck(_) => ("stuck", None, &[]),
+        Can::At {
+            end,
+            channel,
+            partners,
+            too_large,
+        } => {
+            let can = match end {
+                _ if partners.is_empty() && *too_large => "limit",
+                End::Send => "send",
+                End::Receive => "receive",
+            };
+            (can, Some(*channel), partners)
+        }
+    };
+    object(vec![
+        ("thread", thread.to_string()),
+        ("row", seen.row.to_string()),
+        ("text", string(text)),
+        ("can", string(can)),
+        ("channel", channel(at)),
+        ("meets", numbers(meets)),
+        ("words", string(&text::can(&seen.can))),
+    ])
+}
+
+fn channels(view: &View) -> String {
+    array(view.waiting.iter().map(|(channel, at)| {
+        object(vec![
+            ("row", channel.row.to_string()),
+            ("instance", channel.instance.to_string()),
+            ("sending", numbers(&at.sending)),
+            ("receiving", numbers(&at.receiving)),
+        ])
+    }))
+}
+
+/// The end.
+pub fn end(going: &mut Going, refused: Option<Refused>) -> String {
+    let view = going.view();
+    let refused = refused.map(|(made, refusal)| {
+        object(vec![
+            ("move", string(&move_text(made))),
+            ("number", refusal.reason.number().to_string()),
+            ("reason", string(&refusal.reason.to_string())),
+        ])
+    });
+    object(vec![
+        ("event", string("end")),
+        ("moves", going.made.len().to_string()),
+        ("left", view.moves.len().to_string()),
+        ("done", numbers(&view.done())),
+        ("waiting", numbers(&view.alone())),
+        ("stuck", numbers(&view.stuck())),
+        ("limited", numbers(&view.limited())),
+        ("messages", array(going.messages().map(message))),
+        ("replay", string(&moves_text(going.moves()))),
+        ("refused", refused.unwrap_or_else(null)),
+    ]) + "\n"
+}

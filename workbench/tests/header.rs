@@ -1,0 +1,104 @@
+//! The header `include/dispenser.h` and the static library, used from C as a
+//! caller would: compiled, linked and run.
+
+use std::io::Write;
+use std::path::{Path, PathBuf};
+use std::process::{Command, Stdio};
+
+use workbench::samples::{a_with, A, UNPACKING};
+
+/// A file of the repository.
+fn of_repository(name: &str) -> PathBuf {
+    Path::new(env!("CARGO_MANIFEST_DIR")).join("..").join(name)
+}
+
+fn made(name: &str) -> PathBuf {
+    Path::new(env!("CARGO_TARGET_TMPDIR")).join(name)
+}
+
+/// Compiles with all warnings as errors.
+fn compile(compiler: &str, words: &[&str], files: &[&Path]) {
+    let output = Command::new(compiler)
+        .args(["-Wall", "-Wextra", "-pedantic", "-Werror"])
+        .args(words)
+        .arg("-I")
+        .arg(of_repository("include"))
+        .args(files)
+        .output()
+        .expect(compiler);
+    let told = String::from_utf8_lossy(&output.stderr);
+    assert!(output.status.success(), "{compiler} {words:?}: {told}");
+}
+
+#[test]
+fn the_header_compiles_alone() {
+    let source = made("alone.c");
+    std::fs::write(&source, "#include \"dispenser.h\"\nint nothing;\n").unwrap();
+    for standard in ["-std=c99", "-std=c11", "-std=c17"] {
+        compile("gcc", &["-fsyntax-only", standard], &[&source]);
+    }
+    // Where there is a compiler for C++ too.
+    if Command::new("g++").arg("--version").output().is_ok() {
+        for standard in ["-std=c++98", "-std=c++11", "-std=c++17"] {
+            let words = ["-fsyntax-only", "-Wno-long-long", "-x", "c++", standard];
+            compile("g++", &words, &[&source]);
+        }
+    }
+}
+
+#[test]
+fn a_record_of_another_layout_is_told_by_the_compiler() {
+    // The static assertions are there: with other fields the header does not
+    // compile.
+    let header = std::fs::read_to_string(of_repository("include/dispenser.h")).unwrap();
+    for (field, other) in [
+        ("    uint8_t row;\n", "    uint32_t row;\n"),
+        ("    uint16_t frame;\n", ""),
+        ("    uint16_t cell;\n", "    uint8_t cell;\n"),
+    ] {
+        assert!(header.contains(field));
+        let source = made("other.c");
+        std::fs::write(&source, header.replace(field, other)).unwrap();
+        let output = Command::new("gcc")
+            .args(["-std=c11", "-fsyntax-only"])
+            .arg(&source)
+            .output()
+            .unwrap();
+        assert!(!output.status.success(), "{field}");
+    }
+}
+
+#[test]
+fn a_caller_in_c_runs_listing_a_to_the_end() {
+    let source = Path::new(env!("CARGO_MANIFEST_DIR")).join("tests/c/run_a.c");
+    let library = of_repository("target/staticlib/libdispenser_c.a");
+    let program = made("run_a");
+    let words = ["-O2", "-o", program.to_str().unwrap()];
+    compile("gcc", &words, &[&source, &library]);
+    let printed = |file: &str| {
+        let mut child = Command::new(&program)
+            .stdin(Stdio::piped())
+            .stdout(Stdio::piped())
+            .spawn()
+            .unwrap();
+        let mut stdin = child.stdin.take().unwrap();
+        stdin.write_all(file.as_bytes()).unwrap();
+        drop(stdin);
+        let output = child.wait_with_output().unwrap();
+        let text = String::from_utf8(output.stdout).unwrap();
+        (output.status.code(), text)
+    };
+    let (status, text) = printed(A);
+    assert_eq!(status, Some(0));
+    assert_eq!(
+        text,
+        "0\n0\n0\n1\n0\n0:1\nthread 0 at row 8\nthread 1 at row 5\n"
+    );
+    // Calls and returns; then unit is no pair.
+    let (status, text) = printed(UNPACKING);
+    assert_eq!(status, Some(0));
+    assert_eq!(text, "0\n".repeat(7) + "thread 0 at row 8\n");
+    // What load refuses is not run.
+    let refused = a_with("[row 8 [result 6]]", "[row 8 [result 3]]");
+    assert_eq!(printed(&refused), (Some(1), "refused 8\n".to_string()));
+}
