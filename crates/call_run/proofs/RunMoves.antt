@@ -9,24 +9,21 @@ use lib.ListN.{length, getD, take}
 use borrow.Author.Tests.{le-ltb}
 use Rattle.program.specs.Maybe.{_>>=_}
 use Rattle.program.specs.Program.{Program}
-use Rattle.program.specs.Test.{pick}
 use Rattle.format.specs.declared.Refusal.{Refusal}
 use Rattle.format.specs.declared.Reason.the-variants.{StoreTooShort, MoveNotAllowed}
 use Rattle.format.specs.Refusals.{refusal, Result, refused, accepted}
 use Rattle.format.specs.Text.{Bytes}
-use Rattle.format.specs.Document.{Document}
-use Rattle.calls.specs.Calls.{openedFixed, opened}
-use Rattle.calls.specs.Layout.{storeSize, decode}
+use Rattle.calls.specs.Calls.{opened}
+use Rattle.calls.specs.Layout.{storeSize}
 use Rattle.store.specs.Rows.{storeProgram}
 use Rattle.opening.specs.declared.Opened.{Opened}
 use Rattle.opening.specs.Opening.{OpenedIs}
 use Rattle.opening.proofs.Opening.{refused-is, opens-is}
 use Rattle.machine.specs.declared.ThreadRecord.{ThreadRecord}
-use Rattle.machine.specs.Machine.{Machine, Memory, Change, threadAt, change, meeting, Order, alone, together, changes}
-use Rattle.run_memory.specs.declared.InUse.{InUse}
-use Rattle.run_memory.specs.RunMemory.{inUse, counts, counted, memoryIn, machineIn}
+use Rattle.machine.specs.Machine.{Change, threadAt, change, meeting, Order, alone, together, changes}
+use Rattle.run_memory.specs.RunMemory.{inUse, memoryIn, machineIn}
 use Rattle.run_calls.specs.declared.RunAnswer.{RunAnswer}
-use Rattle.run_calls.specs.RunCalls.{RunOutcome, LeavesRun, tooShort, storeOpened, runOpened, begunIn, beginWith, beginOn, made, moveWith, moveOn}
+use Rattle.run_calls.specs.RunCalls.{LeavesRun, tooShort, storeOpened, runOpened, begunIn, beginWith, beginOn, made, moveWith, moveOn}
 use Rattle.run_calls.proofs.Opened.{long-told}
 use Rattle.thread_records.specs.Records.{noRecord}
 use Rattle.thread_changes.specs.declared.ThreadChange.{ThreadChange}

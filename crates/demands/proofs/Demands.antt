@@ -1,5 +1,5 @@
 -- The demands, and what the requests of document 02 promise, as theorems about the definitions of the calls, in document 01's numbers and values (`Answers` of crate calls).
--- Their proofs stand in `Calls`, `Exact` and `Numbers` of crate calls and in crates least and inference; here is what they say.
+-- Their proofs stand in `Calls`, `Exact` and `Numbers` of crate calls and in crates least, inference, machine and run_calls; here is what they say.
 use Prim.Native.Nat.{ℕ, _≤_, _<_}
 use mathlib.Core.Bool.{false, So}
 use mathlib.Core.List.{List, [], _∷_, _++_}
@@ -31,6 +31,13 @@ use Rattle.least.proofs.Least as least
 use Rattle.inference.specs.Inference.{infer}
 use Rattle.inference.specs.Inferred.{InferIs}
 use Rattle.inference.proofs.Inference as inference
+use Rattle.machine.specs.declared.ThreadRecord.{ThreadRecord}
+use Rattle.machine.specs.Machine.{Order, threadLimit}
+use Rattle.machine.specs.Standing.{Shown}
+use Rattle.run_memory.specs.RunMemory.{runSize}
+use Rattle.run_calls.specs.RunCalls.{runAnswer, begin}
+use Rattle.run_calls.specs.Watching.{lentOf, leaves, moveIn, played, orders, RowsAre, AllRows, WatchedRun}
+use Rattle.run_calls.proofs.Watching as watching
 use Rattle.calls.proofs.Judging as judging
 use Rattle.calls.proofs.Calls as the
 use Rattle.calls.proofs.Exact as exact
@@ -120,3 +127,29 @@ infer-twice = inference.infer-twice
 pub smallest-unique : (p : Program) (flow comm : Table) → KeepsAll p flow comm
     → ((flow′ comm′ : Table) → KeepsAll p flow′ comm′ → Within flow flow′ × Within comm comm′) → (flow ≡ smallestFlow p) × (comm ≡ smallestComm p)
 smallest-unique = least.smallest-unique
+
+-- ---- request No. 3, "A run on the workbench"
+
+-- "both leave the run as before", and so does every refused call: of any store, run memory and records
+pub begin-refused : (store run : Bytes) (ts : List ThreadRecord) (n line : ℕ) → runAnswer (begin store run ts .answer) ≡ turnedBack n line
+    → (begin store run ts .run ≡ run) × (begin store run ts .threads ≡ ts)
+begin-refused = watching.begin-refused
+
+pub move-refused : (store run : Bytes) (ts : List ThreadRecord) (n line : ℕ) (o : Order) → runAnswer (moveIn store (lentOf run ts) o .answer) ≡ turnedBack n line
+    → (moveIn store (lentOf run ts) o .run ≡ run) × (moveIn store (lentOf run ts) o .threads ≡ ts)
+move-refused = watching.move-refused
+
+-- beginning is accepted wherever the store holds a document and the run memory and records are long enough; then, after any moves, accepted or refused, each with a store of the
+-- same rows, the run "stands for the pool that the steps of its accepted moves leave, thread for leaf, instance for instance", and the next move is refused with 30 exactly
+-- where the run rules don't allow its step or a thread isn't there, with 31 exactly where the step is allowed and would exceed a limit, and never with 20 to 22 (`WatchedRun`)
+pub watched-run : (p : Program) (store run : Bytes) (ts : List ThreadRecord) → RowsAre p store → runSize ≤ length run → threadLimit ≤ length ts
+    → (runAnswer (begin store run ts .answer) ≡ answered (1 ∷ []))
+    × ((calls : List (Bytes × Order)) → AllRows p calls → WatchedRun p (played (leaves (begin store run ts)) calls) (orders calls))
+watched-run = watching.watched-run
+
+-- "What is promised of an accepted program's history holds of each run watched here": of the pool that any moves on the rows of an accepted file stand for
+pub watched-histories : (file store : Bytes) (ns : List ℕ) (n : ℕ) → loadAnswer (load file store .answer) ≡ answered ns → judgeAnswer (judge (load file store .bytes)) ≡ answered (n ∷ [])
+    → (d : Document) × (file ≡ documentText d) × So (wellFormed d)
+    × ((k : Claim) → Member k (d .claims) → (name : ℕ) → chanAt (d .rows) (k .channel) ≡ some name
+    → (os : List Order) (s : Shown (d .rows) os) (maker : Path) → HistoryFits (d .rows) (run (d .rows) (s .steps)) (made maker name) (k .word))
+watched-histories file store ns n e f = let (d, text, well, fits) = sound file store ns n e f in (d, text, well, λ k m name c os s maker. fits k m name c (s .steps) maker)

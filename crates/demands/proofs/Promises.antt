@@ -4,11 +4,11 @@ use Prim.Native.Nat.{ℕ, _≤_, _<_}
 use mathlib.Core.Bool.{So}
 use mathlib.Core.List.{List, [], _∷_, _++_}
 use mathlib.Core.Option.{some}
-use mathlib.Core.Path.{_≡_, sym, ap, _∙_}
+use mathlib.Core.Path.{_≡_, refl, sym, ap, ap₂, subst, _∙_}
 use mathlib.Core.Logic.{_↔_, _≢_}
 use lib.ListN.{length, take, drop, replicate}
-use Rattle.program.specs.Each.{Member}
-use Rattle.program.specs.Program.{chanAt}
+use Rattle.program.specs.Each.{Member, nil, _&_}
+use Rattle.program.specs.Program.{Program, chanAt}
 use Rattle.program.specs.Run.{Path, made, Step, run}
 use Rattle.program.specs.History.{HistoryFits}
 use Rattle.format.specs.Limits.{byteLimit}
@@ -26,6 +26,12 @@ use Rattle.calls.specs.Calls.{Outcome, Leaves, unaltered, load, judge, verdict,
 use Rattle.calls.specs.Exact.{StoreHolds, RulesHold, ClaimsHold, JudgeIs, VerdictIs}
 use Rattle.inference.specs.Inference.{infer}
 use Rattle.inference.specs.Inferred.{InferIs}
+use Rattle.machine.specs.declared.ThreadRecord.{ThreadRecord}
+use Rattle.machine.specs.Machine.{Order, threadLimit}
+use Rattle.run_memory.specs.RunMemory.{runSize}
+use Rattle.run_calls.specs.declared.RunAnswer.{RunAnswer}
+use Rattle.run_calls.specs.RunCalls.{runAnswer, LeavesRun, begin}
+use Rattle.run_calls.specs.Watching.{Lent, lentOf, leaves, moveIn, played, orders, RowsAre, AllRows, WatchedRun}
 use Rattle.demands.proofs.Demands as definitions
 
 -- a load
@@ -123,3 +129,45 @@ module _ (store : Bytes) {answer : LoadAnswer} {left : Bytes} (infers : Leaves (
         again .answer-is ∙ ap (λ (o : Outcome LoadAnswer). o .answer) twice ∙ sym (infers .answer-is),
         again .bytes-are ∙ ap (λ (o : Outcome LoadAnswer). o .bytes) twice ∙ sym (infers .bytes-are),
       )
+
+-- ---- the run calls: each leaves what its definition gives
+
+-- moves by the functions, one after the other, each with a store of the same rows
+pub data Moved (p : Program) : Lent → List Order → Lent → Type 0 where
+  no-move : {l : Lent} → Moved p l [] l
+  next-move : {l l′ l″ : Lent} {o : Order} {os : List Order} (store : Bytes) {answer : RunAnswer} → RowsAre p store → LeavesRun (moveIn store l o) answer (l′ .run) (l′ .threads) → Moved p l′ os l″ → Moved p l (o ∷ os) l″
+
+-- the same as calls of the definitions
+record AsCalls (p : Program) (l : Lent) (os : List Order) (l′ : Lent) : Type 0 where
+  calls : List (Bytes × Order)
+  rows : AllRows p calls
+  moves : orders calls ≡ os
+  left : played l calls ≡ l′
+
+as-calls : {p : Program} {l : Lent} {os : List Order} {l′ : Lent} → Moved p l os l′ → AsCalls p l os l′
+unfolding played orders
+as-calls no-move = record { calls = []; rows = nil; moves = refl; left = refl }
+as-calls (next-move {l = l} {o = o} store rows left-by more) =
+    let k = as-calls more in
+    let e = ap₂ lentOf (sym (left-by .run-is)) (sym (left-by .threads-are)) in
+    record { calls = (store, o) ∷ k .calls; rows = rows & k .rows; moves = ap (λ (os : List Order). o ∷ os) (k .moves); left = ap (λ (l : Lent). played l (k .calls)) e ∙ k .left }
+
+module _ (store run : Bytes) (ts : List ThreadRecord) {answer : RunAnswer} {run′ : Bytes} {ts′ : List ThreadRecord} where
+  pub begin-refused : LeavesRun (begin store run ts) answer run′ ts′ → (n line : ℕ) → runAnswer answer ≡ turnedBack n line → (run′ ≡ run) × (ts′ ≡ ts)
+  begin-refused leaves n line e = let (r, t) = definitions.begin-refused store run ts n line (ap runAnswer (sym (leaves .answer-is)) ∙ e) in (leaves .run-is ∙ r, leaves .threads-are ∙ t)
+
+  pub move-refused : (o : Order) → LeavesRun (moveIn store (lentOf run ts) o) answer run′ ts′ → (n line : ℕ) → runAnswer answer ≡ turnedBack n line → (run′ ≡ run) × (ts′ ≡ ts)
+  move-refused o leaves n line e = let (r, t) = definitions.move-refused store run ts n line o (ap runAnswer (sym (leaves .answer-is)) ∙ e) in (leaves .run-is ∙ r, leaves .threads-are ∙ t)
+
+  -- Request No. 3: a run that was begun, and then moved, stands for the pool that the steps of its accepted moves leave, and the next move answers as the run rules say
+  pub watched-run : (p : Program) → LeavesRun (begin store run ts) answer run′ ts′ → RowsAre p store → runSize ≤ length run → threadLimit ≤ length ts
+      → (runAnswer answer ≡ answered (1 ∷ [])) × ((os : List Order) (l : Lent) → Moved p (lentOf run′ ts′) os l → WatchedRun p l os)
+  watched-run p begins rows long records =
+      let (a, w) = definitions.watched-run p store run ts rows long records in
+      (ap runAnswer (begins .answer-is) ∙ a, λ os l moved. go os l (as-calls moved) w)
+    where
+      go : (os : List Order) (l : Lent) → AsCalls p (lentOf run′ ts′) os l → ((calls : List (Bytes × Order)) → AllRows p calls → WatchedRun p (played (leaves (begin store run ts)) calls) (orders calls)) → WatchedRun p l os
+      go os l k w =
+          let e : lentOf run′ ts′ ≡ leaves (begin store run ts) = ap₂ lentOf (begins .run-is) (begins .threads-are) in
+          let q : played (leaves (begin store run ts)) (k .calls) ≡ l = ap (λ (l : Lent). played l (k .calls)) (sym e) ∙ k .left in
+          subst (λ (l : Lent). WatchedRun p l os) q (subst (λ (os : List Order). WatchedRun p (played (leaves (begin store run ts)) (k .calls)) os) (k .moves) (w (k .calls) (k .rows)))

@@ -1,6 +1,6 @@
 -- From the calls on records by value to those on the whole lent list: the records that are taken out and put back give the answer, the bytes and the records of the call on the list.
 use Prim.Native.Nat.{ℕ}
-use mathlib.Core.Path.{_≡_, sym, _∙_, ap, subst}
+use mathlib.Core.Path.{_≡_, _∙_, ap, subst}
 use mathlib.Core.List.{List}
 use lib.ListN.{length}
 use Rattle.format.specs.Text.{Bytes}

@@ -1,26 +1,19 @@
 -- A run call looks at no record but the first ones, and alters no other: the call on these, put back, is the call on the whole lent list.
 use Prim.Native.Nat.{ℕ, zero, suc, _+_, _≤_, _<_}
 use native.Mathlib.Omega.{arith}
-use native.Mathlib.Decide.{decLt}
-use mathlib.Core.Bool.{Bool, true, false, not, _&&_, _||_, So}
+use mathlib.Core.Bool.{Bool, true, false, _&&_}
 use mathlib.Core.List.{List, [], _∷_, _++_}
 use mathlib.Core.Option.{Option, none, some}
-use mathlib.Core.Path.{_≡_, refl, sym, _∙_, ap, ap₂, subst}
+use mathlib.Core.Path.{_≡_, refl, sym, _∙_, ap, subst}
 use lib.ListN.{length, set, take, drop, length-set, length-take, take-append-drop}
-use lib.Dec.{ltb, leb}
-use borrow.Author.Tests.{lt-ltb, leb-true}
-use Rattle.program.specs.Maybe.{_>>=_}
 use Rattle.program.specs.Program.{Program}
-use Rattle.program.specs.Test.{pick}
 use Rattle.program.proofs.Maybe.{bind-elim}
-use Rattle.program.proofs.Test.{and-left, and-right}
 use Rattle.format.specs.Refusals.{Result, refused, accepted}
 use Rattle.format.specs.Document.{Document}
 use Rattle.format.specs.Text.{Bytes}
 use Rattle.machine.specs.declared.ThreadRecord.{ThreadRecord}
 use Rattle.machine.specs.Machine.{Machine, Change, threadAt, change, meeting, changed, changedAll, within, Order, alone, together, changes, sound, cellLimit, frameLimit, threadLimit}
 use Rattle.run_memory.specs.RunMemory.{inUse, machineIn, withinLimits, soundRun, bytesAfter, placed, threadsAfter}
-use Rattle.run_memory.proofs.Codec.{length-placed}
 use Rattle.calls.specs.Layout.{storeSize, decode}
 use Rattle.run_calls.specs.declared.RunAnswer.{RunAnswer}
 use Rattle.run_calls.specs.RunCalls.{RunOutcome, Lends, storeOpened, runOpened, begunIn, beginWith, beginOn, threadsAll, made, moveWith, moveOn}

@@ -3,7 +3,7 @@ use Prim.Native.Nat.{ℕ, _≤_, _<_}
 use native.Mathlib.Omega.{arith}
 use native.Mathlib.Decide.{decLt}
 use mathlib.Core.Bool.{Bool, true, false, _||_}
-use mathlib.Core.Path.{_≡_, refl, sym, _∙_, ap, ap₂, subst}
+use mathlib.Core.Path.{_≡_, refl, sym, _∙_, ap, subst}
 use mathlib.Core.List.{_++_}
 use lib.ListN.{length, take, drop}
 use lib.Dec.{ltb}
@@ -14,7 +14,6 @@ use Rattle.format.specs.Text.{Bytes}
 use Rattle.calls.specs.Layout.{storeSize}
 use Rattle.machine.specs.Machine.{Order, threadLimit}
 use Rattle.run_memory.specs.RunMemory.{runSize}
-use Rattle.run_calls.specs.declared.RunAnswer.{RunAnswer}
 use Rattle.run_calls.specs.RunCalls.{RunOutcome, turnedAway, tooShort, storeOpened, runOpened, beginWith, beginOn, moveWith, moveOn}
 use Rattle.thread_records.specs.declared.Records.{Records}
 use Rattle.thread_records.specs.Records.{recordsIn, putRecords}

@@ -1,5 +1,5 @@
 -- A thread's change stands for the moves that the run rules give it, and there is a change exactly where there are moves.
-use Prim.Native.Nat.{ℕ, zero, suc, _≤_, _<_}
+use Prim.Native.Nat.{ℕ, suc, _≤_}
 use native.Mathlib.Omega.{arith}
 use mathlib.Core.Bool.{Bool, true, false, So}
 use mathlib.Core.List.{List, [], _∷_, _++_}
@@ -16,18 +16,18 @@ use Rattle.program.specs.declared.Form.{Form}
 use Rattle.program.specs.declared.Form.the-variants.{Chan, Send, Recv, Pair, Left, Right, Fun, Spawn, Sync, First, Second, Case, Apply}
 use Rattle.program.specs.Maybe.{_>>=_}
 use Rattle.program.specs.Program.{Program, rowAt, pairAt, leftAt, rightAt, funAt}
-use Rattle.program.specs.Run.{Label, next, spawn, return, Path, Instance, made, Value, unit, channel, closure, Env, extend, lookup, closureAt, Return, State, Move, proceed, enter, start, formMoves, resultMoves, moves}
+use Rattle.program.specs.Run.{next, spawn, return, Path, Instance, made, Value, unit, channel, closure, Env, extend, lookup, closureAt, Return, State, Move, proceed, enter, start, formMoves, resultMoves, moves}
 use Rattle.machine.specs.declared.ThreadRecord.{ThreadRecord}
 use Rattle.machine.specs.declared.Cell.{Cell}
 use Rattle.machine.specs.declared.Frame.{Frame}
 use Rattle.machine.specs.declared.Held.{Held}
-use Rattle.machine.specs.declared.Held.the-variants.{Channel, Closure}
+use Rattle.machine.specs.declared.Held.the-variants.{Closure}
 use Rattle.machine.specs.declared.Kept.{Kept}
 use Rattle.machine.specs.declared.Kept.the-variants.{Makes, Keeps}
-use Rattle.machine.specs.Machine.{Memory, numbered, find, findClosure, Change, grown, bound, newest, goOn, fork, goInto, formChange, resultChange, change}
+use Rattle.machine.specs.Machine.{Memory, find, findClosure, Change, grown, bound, newest, goOn, fork, goInto, formChange, resultChange, change}
 use Rattle.machine.specs.Meaning.{Marked, cells, count, madeBy, ownAt, keptBy, valueBy, envAt, valueOf, returnsAt, stateIn, Marks, memoryOf}
 use Rattle.machine.proofs.Like.{Like, neither, both, like-bind, like-same, like-either}
-use Rattle.machine.proofs.Meaning.{HeldIn, KeptIn, CellsIn, FramesIn, ThreadIn, env-older, own-older, env-newest, own-newest, value-older, held-older, returns-older, frames-older, frame-older, frame-newest, Means, find-like, SameClosure, closure-like, Last, no-return, last, last-of}
+use Rattle.machine.proofs.Meaning.{KeptIn, CellsIn, FramesIn, ThreadIn, env-older, env-newest, value-older, held-older, returns-older, frames-older, frame-older, frame-newest, Means, find-like, closure-like, Last, no-return, last, last-of}
 
 -- the path on which an instance was made
 unfoldable pub maker : Instance → Path

@@ -1,14 +1,12 @@
 -- A move, one find after the other.
-use Prim.Native.Nat.{ℕ}
-use mathlib.Core.List.{List, [], _∷_}
 use mathlib.Core.Option.{Option, none, some}
-use mathlib.Core.Path.{_≡_, refl, sym, _∙_, ap}
+use mathlib.Core.Path.{_≡_, refl}
 use lib.Dec.{eqb}
 use Rattle.program.specs.Maybe.{_>>=_, given}
 use Rattle.program.specs.Program.{Program, bindAt}
 use Rattle.machine.specs.declared.Held.{Held}
 use Rattle.machine.specs.declared.Kept.the-variants.{Keeps}
-use Rattle.machine.specs.Machine.{Memory, Machine, threadAt, Change, grown, change, changed, changedAll, goOn, offers, awaits, Order, alone, together, bothGoOn, meeting, changes, moved}
+use Rattle.machine.specs.Machine.{Machine, threadAt, change, changed, changedAll, goOn, offers, awaits, Order, alone, together, bothGoOn, meeting, changes, moved}
 
 module _ (p : Program) where
   unfoldable pub flat : Machine → Order → Option Machine

@@ -1,9 +1,8 @@
 -- The leaves of a pool when one path is lengthened, and how numbered threads line up with them.
-use Prim.Native.Nat.{ℕ, zero, suc, _≤_, _<_}
+use Prim.Native.Nat.{ℕ}
 use native.Mathlib.Omega.{arith}
-use native.Mathlib.Decide.{ℕ-discrete}
-use mathlib.Core.Bool.{Bool, true, false, not, _&&_, So, false≢true}
-use mathlib.Core.List.{List, [], _∷_}
+use mathlib.Core.Bool.{Bool, true, false, not, _&&_, So}
+use mathlib.Core.List.{[], _∷_}
 use mathlib.Core.Option.{Option, none, some}
 use mathlib.Core.Path.{_≡_, refl, sym, _∙_, ap}
 use mathlib.Core.Logic.{_⊎_, inl, inr, ⊎-elim, _≢_}
@@ -11,9 +10,9 @@ use Rattle.program.specs.Test.{test}
 use Rattle.program.specs.Maybe.{_>>=_, given}
 use Rattle.program.specs.Each.{Member, here, there, every, Each, nil, _&_}
 use Rattle.program.specs.Run.{Label, sameLabel, Path, State, Thread, Pool, stateOf, leaf, leafState}
-use Rattle.program.specs.Snoc.{Snoc, ε, _▷_, Snoc-discrete, Begins, Continues, begins?, continues?}
+use Rattle.program.specs.Snoc.{ε, _▷_, Snoc-discrete, Begins, Continues, continues?}
 use Rattle.program.proofs.Each.{every-elim, each-at, each-imp}
-use Rattle.program.proofs.Snoc.{size, begins-refl, begins-size, begins-cases, continues-begins, continues-size}
+use Rattle.program.proofs.Snoc.{size, begins-refl, begins-cases, continues-begins, continues-size}
 use Rattle.program.proofs.Test.{test-intro, test-elim, not-elim, not-intro, and-intro}
 
 -- ---- functions that differ at one place

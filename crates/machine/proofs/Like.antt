@@ -1,5 +1,4 @@
 -- Two steps that find alike: both nothing, or both something that stands in a relation.
-use mathlib.Core.Bool.{Bool, true, false}
 use mathlib.Core.Path.{_≡_, refl}
 use mathlib.Core.Option.{Option, none, some}
 use Rattle.program.specs.Maybe.{_>>=_, _<|>_}

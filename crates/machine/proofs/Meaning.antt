@@ -1,20 +1,18 @@
 -- What memory stands for: environments, values and waiting returns. Each cell carries an instance, which counts only where the cell Makes a channel.
-use Prim.Native.Nat.{ℕ, zero, suc, _≤_, _<_}
+use Prim.Native.Nat.{ℕ, suc, _≤_}
 use native.Mathlib.Omega.{arith}
-use mathlib.Core.Bool.{Bool, true, false, So}
-use mathlib.Core.List.{List, [], _∷_, map}
+use mathlib.Core.Bool.{Bool, true, false}
+use mathlib.Core.List.{List, [], _∷_}
 use mathlib.Core.Option.{Option, none, some}
 use mathlib.Core.Path.{_≡_, refl, sym, _∙_, ap}
-use mathlib.Core.Logic.{_⊎_, inl, inr, ⊎-elim}
 use lib.ListN.{length}
 use lib.Dec.{eqb}
-use borrow.Author.Tests.{eq-eqb, ne-eqb, eqb-true}
+use borrow.Author.Tests.{ne-eqb}
 use Rattle.program.specs.Test.{pick}
 use Rattle.program.specs.Maybe.{_>>=_}
-use Rattle.program.specs.Run.{Instance, Value, unit, channel, closure, Env, empty, extend, lookup, channelOf, closureOf, closureAt, Return, State}
+use Rattle.program.specs.Run.{Instance, Value, channel, closure, Env, extend, lookup, channelOf, closureOf, closureAt, Return}
 use Rattle.program.proofs.Test.{eqb-same}
 use Rattle.machine.specs.declared.ThreadRecord.{ThreadRecord}
-use Rattle.machine.specs.declared.Cell.{Cell}
 use Rattle.machine.specs.declared.Frame.{Frame}
 use Rattle.machine.specs.declared.Held.{Held}
 use Rattle.machine.specs.declared.Held.the-variants.{Channel, Closure}

@@ -1,10 +1,9 @@
 -- A sender and a receiver meet in the machine exactly where the run rules let their paths meet.
-use Prim.Native.Nat.{ℕ, zero, suc, _≤_, _<_}
-use native.Mathlib.Omega.{arith}
+use Prim.Native.Nat.{ℕ}
 use native.Mathlib.Decide.{ℕ-discrete}
 use mathlib.Core.Bool.{Bool, true, false, So, false≢true}
 use mathlib.Core.List.{List, [], _∷_, _++_}
-use mathlib.Core.Option.{Option, none, some}
+use mathlib.Core.Option.{none, some}
 use mathlib.Core.Path.{_≡_, refl, sym, _∙_, ap, subst}
 use mathlib.Core.Logic.{_≢_}
 use lib.Dec.{eqb}
@@ -14,21 +13,21 @@ use Rattle.program.specs.declared.Form.{Form}
 use Rattle.program.specs.declared.Form.the-variants.{Chan, Send, Recv, Pair, Left, Right, Fun, Spawn, Sync, First, Second, Case, Apply}
 use Rattle.program.specs.Maybe.{_>>=_, given, provided}
 use Rattle.program.specs.Program.{Program, bindAt, formAt, syncAt, sendOf, recvOf, sendAt, recvAt}
-use Rattle.program.specs.Run.{next, Path, Instance, sameInstance, Value, unit, Env, State, Move, Pool, Step, meet, stateOf, leaf, leafState, lengthen, proceed, event, sendsOn, message, offer, receivesOn, added}
+use Rattle.program.specs.Run.{next, Path, Instance, sameInstance, Value, unit, Env, State, Move, Pool, meet, leaf, leafState, lengthen, proceed, event, sendsOn, message, offer, receivesOn, added}
 use Rattle.program.specs.Snoc.{_▷_, Continues}
-use Rattle.program.proofs.Maybe.{Found, nothing, found, found-bind, found-self, found-at, bind-elim}
+use Rattle.program.proofs.Maybe.{Found, nothing, found, found-at, bind-elim}
 use Rattle.program.proofs.Snoc.{begins-refl}
 use Rattle.machine.specs.declared.ThreadRecord.{ThreadRecord}
 use Rattle.machine.specs.declared.Held.{Held}
 use Rattle.machine.specs.declared.Kept.{Kept}
 use Rattle.machine.specs.declared.Kept.the-variants.{Keeps}
 use Rattle.machine.specs.Machine.{Memory, Machine, threadAt, Change, changed, goOn, eventOf, sends, sendsWhat, offers, awaits, together}
-use Rattle.machine.specs.Meaning.{Marked, cells, count, ownAt, stateIn, Marks, memoryOf}
+use Rattle.machine.specs.Meaning.{Marked, cells, ownAt, stateIn, Marks, memoryOf}
 use Rattle.machine.proofs.Flat.{flat}
 use Rattle.machine.proofs.Like.{Like, neither, both, like-bind, like-same, like-found}
-use Rattle.machine.proofs.Meaning.{CellsIn, ThreadIn, Means, find-like, SameClosure, closure-like, channel-like}
+use Rattle.machine.proofs.Meaning.{Means, find-like, SameClosure, closure-like, channel-like}
 use Rattle.machine.proofs.Changes.{Meant, unit-means}
-use Rattle.machine.proofs.Leaves.{put, put-same, put-other, samePath, no-some, leaf-new, leaf-alone, leaves-after, longer-differs}
+use Rattle.machine.proofs.Leaves.{put, put-other, samePath, no-some, leaf-new, leaf-alone, leaves-after}
 use Rattle.machine.proofs.Stands.{Stands, here, leaf-here, state-here, goes-on, put-elsewhere, at-none, states-at, same-some}
 
 -- ---- a form isn't both a send and a receive

@@ -1,14 +1,13 @@
 -- What beginning and moves leave is never refused as unsound (22).
 use Prim.Native.Nat.{ℕ, zero, suc, _≤_, _<_}
 use native.Mathlib.Omega.{arith}
-use mathlib.Core.Bool.{Bool, true, false, _&&_, So}
+use mathlib.Core.Bool.{_&&_, So}
 use mathlib.Core.List.{List, [], _∷_}
-use mathlib.Core.Option.{Option, none, some}
-use mathlib.Core.Path.{_≡_, refl, sym, _∙_, ap, subst}
+use mathlib.Core.Option.{none, some}
+use mathlib.Core.Path.{_≡_, refl, sym, _∙_, subst}
 use lib.ListN.{length}
-use lib.Dec.{ltb, leb}
 use borrow.Author.Tests.{lt-ltb, le-leb}
-use Rattle.program.specs.Each.{every, Each, nil, _&_}
+use Rattle.program.specs.Each.{every, Each, _&_}
 use Rattle.program.specs.Program.{Program}
 use Rattle.program.specs.Run.{Path, Instance, Pool}
 use Rattle.program.proofs.Test.{and-intro}
@@ -19,10 +18,9 @@ use Rattle.machine.specs.declared.Held.{Held}
 use Rattle.machine.specs.declared.Held.the-variants.{Channel, Closure}
 use Rattle.machine.specs.declared.Kept.{Kept}
 use Rattle.machine.specs.declared.Kept.the-variants.{Makes, Keeps}
-use Rattle.machine.specs.Machine.{Memory, Machine, threadAt, begin, Order, watched, rowThere, nameThere, soundKept, soundCells, soundFrame, soundThread, sound}
+use Rattle.machine.specs.Machine.{Machine, threadAt, begin, Order, watched, soundKept, soundCells, soundFrame, soundThread, sound}
 use Rattle.machine.specs.Meaning.{Marked, cells, count, ownAt, Marks, memoryOf}
-use Rattle.machine.proofs.Meaning.{own-older, HeldIn, KeptIn, CellsIn, FramesIn, ThreadIn}
-use Rattle.machine.proofs.Changes.{Meant}
+use Rattle.machine.proofs.Meaning.{own-older, KeptIn, CellsIn, FramesIn, ThreadIn}
 use Rattle.machine.proofs.Leaves.{no-some}
 use Rattle.machine.proofs.Stands.{Stands}
 use Rattle.machine.proofs.There.{CellThere, KeptThere, FrameThere, ThreadThere, MemoryThere, MachineThere, watched-there, begin-there}

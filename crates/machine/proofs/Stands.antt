@@ -1,8 +1,8 @@
 -- A machine stands for a pool: thread for leaf, instance for instance; and its moves stand for the steps of the run rules.
-use Prim.Native.Nat.{ℕ, zero, suc, _≤_, _<_}
+use Prim.Native.Nat.{ℕ, zero, suc}
 use native.Mathlib.Omega.{arith}
 use native.Mathlib.Decide.{ℕ-discrete}
-use mathlib.Core.Bool.{Bool, true, false, So, false≢true}
+use mathlib.Core.Bool.{true, false, So, false≢true}
 use mathlib.Core.List.{List, [], _∷_, _++_, map}
 use mathlib.Core.Option.{Option, none, some}
 use mathlib.Core.Path.{_≡_, refl, sym, _∙_, ap, subst}
@@ -10,23 +10,22 @@ use mathlib.Core.Logic.{_⊎_, inl, inr, ⊎-elim, _≢_}
 use lib.ListN.{length, set}
 use Rattle.program.specs.Maybe.{_>>=_}
 use Rattle.program.specs.declared.Bind.{Bind}
-use Rattle.program.specs.Each.{Each, nil, _&_}
+use Rattle.program.specs.Each.{_&_}
 use Rattle.program.specs.Program.{Program}
-use Rattle.program.specs.Run.{Label, next, Path, Value, proceed, Instance, State, Move, Thread, Pool, Step, own, meet, stateOf, leaf, leafState, lengthen, moves, added}
+use Rattle.program.specs.Run.{Label, next, Path, Value, proceed, Instance, State, Move, Thread, Pool, own, stateOf, leaf, leafState, lengthen, moves, added}
 use Rattle.program.specs.Snoc.{_▷_, Begins}
 use Rattle.program.proofs.Snoc.{size, begins-size}
 use Rattle.machine.specs.declared.ThreadRecord.{ThreadRecord}
 use Rattle.machine.specs.declared.Held.{Held}
-use Rattle.machine.specs.declared.Kept.{Kept}
 use Rattle.machine.specs.declared.Kept.the-variants.{Keeps}
-use Rattle.machine.specs.Machine.{Memory, Machine, threadAt, Change, grown, change, changed, goOn, Order, alone, together}
-use Rattle.machine.specs.Meaning.{Marked, cells, count, ownAt, envAt, returnsAt, stateIn, Marks, memoryOf, states}
+use Rattle.machine.specs.Machine.{Memory, Machine, threadAt, Change, grown, change, changed, goOn, alone}
+use Rattle.machine.specs.Meaning.{cells, ownAt, stateIn, Marks, memoryOf, states}
 use Rattle.machine.specs.Standing.{Lined}
 use Rattle.machine.proofs.Flat.{flat}
-use Rattle.machine.proofs.Like.{Like, neither, both, like-bind, like-same}
+use Rattle.machine.proofs.Like.{Like, both, like-bind}
 use Rattle.machine.proofs.Meaning.{ThreadIn, Means}
 use Rattle.machine.proofs.Changes.{maker, Meant, Extends, Outcome, one, two, Follows, on-held, change-like}
-use Rattle.machine.proofs.Leaves.{put, put-same, put-other, put-idle, put-cong, decide, samePath, no-some, leaf-state, New, leaf-new, leaf-alone, new-state, not-leaf, shorter-leaf, leaf-stays, longer-differs, other-state, leaves-after}
+use Rattle.machine.proofs.Leaves.{put, put-same, put-other, put-idle, put-cong, decide, samePath, no-some, leaf-state, New, leaf-new, new-state, not-leaf, shorter-leaf, leaf-stays, longer-differs, other-state, leaves-after}
 use Rattle.machine.proofs.Lined.{lined-same, leave, arrive}
 
 -- ---- threads by their numbers

@@ -1,17 +1,17 @@
 -- What each move takes of cells, frames and threads: 31 can be told before anything is altered; and so what each move answers.
 use Prim.Native.Nat.{ℕ, zero, suc, _+_}
 use native.Mathlib.Omega.{arith}
-use mathlib.Core.Bool.{Bool, true, false, _&&_, So}
+use mathlib.Core.Bool.{Bool, true, false, So}
 use mathlib.Core.List.{List, [], _∷_, _++_}
 use mathlib.Core.Option.{Option, none, some}
 use mathlib.Core.Path.{_≡_, refl, sym, _∙_, ap, subst}
 use lib.ListN.{length, length-append, set}
-use lib.Dec.{eqb, leb}
+use lib.Dec.{eqb}
 use Rattle.program.specs.declared.Row.{Row}
 use Rattle.program.specs.declared.Bind.{Bind}
 use Rattle.program.specs.declared.Form.{Form}
 use Rattle.program.specs.declared.Form.the-variants.{Chan, Send, Recv, Pair, Left, Right, Fun, Spawn, Sync, First, Second, Case, Apply}
-use Rattle.program.specs.Maybe.{_>>=_, _<|>_, given}
+use Rattle.program.specs.Maybe.{_>>=_, given}
 use Rattle.program.specs.declared.Word.{Word}
 use Rattle.program.specs.Flow.{Table, keepsAll}
 use Rattle.program.specs.History.{HistoryFits}
@@ -23,11 +23,10 @@ use Rattle.program.specs.Program.{Program, rowAt, chanAt, bindAt, pairAt, leftA
 use Rattle.program.proofs.Maybe.{Found, nothing, found, found-self, found-bind, found-either, found-at}
 use Rattle.machine.specs.declared.ThreadRecord.{ThreadRecord}
 use Rattle.machine.specs.declared.Cell.{Cell}
-use Rattle.machine.specs.declared.Frame.{Frame}
 use Rattle.machine.specs.declared.Held.{Held}
 use Rattle.machine.specs.declared.Kept.{Kept}
 use Rattle.machine.specs.declared.Kept.the-variants.{Keeps}
-use Rattle.machine.specs.Machine.{Memory, Machine, numbered, find, findClosure, threadAt, Change, grown, bound, newest, goOn, fork, goInto, formChange, resultChange, change, offers, awaits, begin, changed, watched, Order, alone, together, moved, within, answer, Taken, takes, takenBy, takenAt, takenIn, fits}
+use Rattle.machine.specs.Machine.{Memory, Machine, numbered, find, findClosure, threadAt, Change, grown, bound, goOn, fork, goInto, formChange, resultChange, change, offers, awaits, begin, changed, watched, Order, alone, together, moved, within, answer, Taken, takes, takenBy, takenAt, takenIn, fits}
 use Rattle.machine.specs.Standing.{stepOf, Shown, AnswerIs, not-allowed, too-large, taken}
 use Rattle.machine.proofs.Flat.{flat, flat-moved}
 use Rattle.machine.proofs.Stands.{Stands}

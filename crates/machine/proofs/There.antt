@@ -1,5 +1,5 @@
 -- Rows and names that a watched run's memory names are there.
-use Prim.Native.Nat.{ℕ, zero, suc, _≤_, _<_}
+use Prim.Native.Nat.{ℕ, zero, suc, _<_}
 use native.Mathlib.Omega.{arith}
 use mathlib.Core.Bool.{Bool, true, false, _&&_, _||_, So}
 use mathlib.Core.List.{List, [], _∷_, _++_}
@@ -7,20 +7,20 @@ use mathlib.Core.Option.{Option, none, some}
 use mathlib.Core.Path.{_≡_, refl, sym, _∙_, ap, subst}
 use lib.ListN.{length, set}
 use lib.Dec.{eqb, ltb}
-use borrow.Author.Tests.{eq-eqb, lt-ltb}
+use borrow.Author.Tests.{lt-ltb}
 use Rattle.program.specs.declared.Row.{Row}
 use Rattle.program.specs.declared.Bind.{Bind}
 use Rattle.program.specs.declared.Form.{Form}
 use Rattle.program.specs.declared.Form.the-variants.{Chan, Send, Recv, Pair, Left, Right, Fun, Spawn, Sync, First, Second, Case, Apply}
-use Rattle.program.specs.Each.{Member, here, there, elem, collect, Each, nil, _&_}
-use Rattle.program.specs.Maybe.{_>>=_, _<|>_, given}
+use Rattle.program.specs.Each.{there, elem, collect, Each, nil, _&_}
+use Rattle.program.specs.Maybe.{_>>=_, given}
 use Rattle.program.specs.Program.{Program, rowAt, bindOf, bindAt, formAt, sendAt, pairAt, leftAt, rightAt, funOf, funAt, rowsOf, bindersOf, pointers, binders}
 use Rattle.program.specs.Test.{pick}
-use Rattle.program.proofs.Each.{each-imp, each-append, each-left, each-right, each-member}
-use Rattle.program.proofs.Maybe.{Found, nothing, found, found-self, found-bind, found-either, found-at, found-map}
+use Rattle.program.proofs.Each.{each-imp, each-append, each-left, each-right}
+use Rattle.program.proofs.Maybe.{Found, nothing, found, found-self, found-bind, found-either, found-map}
 use Rattle.program.proofs.Sound.Forms.{fun-form}
 use Rattle.program.proofs.Sound.Shape.{bind-bound, row-of, rests-rise}
-use Rattle.program.proofs.Test.{and-left, and-right, or-left, or-right, eqb-same}
+use Rattle.program.proofs.Test.{and-right, or-left, or-right, eqb-same}
 use Rattle.program.proofs.WellFormed.{WellFormed}
 use Rattle.machine.specs.declared.ThreadRecord.{ThreadRecord}
 use Rattle.machine.specs.declared.Cell.{Cell}
@@ -29,7 +29,7 @@ use Rattle.machine.specs.declared.Held.{Held}
 use Rattle.machine.specs.declared.Held.the-variants.{Channel, Closure}
 use Rattle.machine.specs.declared.Kept.{Kept}
 use Rattle.machine.specs.declared.Kept.the-variants.{Makes, Keeps}
-use Rattle.machine.specs.Machine.{Memory, Machine, numbered, heldBy, find, closureHeldBy, findClosure, threadAt, Change, grown, bound, newest, goOn, fork, goInto, formChange, resultChange, change, eventOf, findChannel, sends, sendsWhat, offers, awaits, begin, changed, Order, alone, together, moved, within, Answer, refused, accepted, answer, left, watched, rowThere, nameThere}
+use Rattle.machine.specs.Machine.{Memory, Machine, numbered, heldBy, find, closureHeldBy, findClosure, threadAt, Change, grown, bound, newest, goOn, fork, goInto, formChange, resultChange, change, eventOf, sends, sendsWhat, offers, awaits, begin, changed, Order, alone, together, moved, within, Answer, refused, accepted, answer, left, watched, rowThere, nameThere}
 use Rattle.machine.proofs.Flat.{flat, flat-moved}
 
 -- ---- what a row names is there

@@ -1,32 +1,24 @@
 -- A watched run stands for the pool that the steps of its accepted moves leave.
-use Prim.Native.Nat.{ℕ, zero, suc, _≤_, _<_}
+use Prim.Native.Nat.{ℕ, zero, suc}
 use native.Mathlib.Omega.{arith}
-use mathlib.Core.Bool.{Bool, true, false, So}
+use mathlib.Core.Bool.{Bool, true, false}
 use mathlib.Core.List.{List, [], _∷_, _++_}
 use mathlib.Core.Option.{Option, none, some}
 use mathlib.Core.Path.{_≡_, refl, sym, _∙_, ap, subst}
-use lib.ListN.{length}
-use Rattle.program.specs.declared.Word.{Word}
-use Rattle.program.specs.Flow.{Table, keepsAll}
-use Rattle.program.specs.History.{HistoryFits}
 use Rattle.program.specs.Maybe.{_>>=_, given}
-use Rattle.program.specs.Program.{Program, chanAt}
-use Rattle.program.specs.Run.{Path, sameLabel, made, empty, State, Thread, Pool, Step, own, meet, stateOf, leaf, leafState, added, step, after, startPool, run}
-use Rattle.program.specs.Snoc.{Snoc, ε, continues?}
+use Rattle.program.specs.Program.{Program}
+use Rattle.program.specs.Run.{Path, empty, State, Thread, Pool, Step, stateOf, leaf, leafState, added, step, after, startPool, run}
+use Rattle.program.specs.Snoc.{ε, continues?}
 use Rattle.program.specs.Each.{every}
-use Rattle.program.specs.Test.{pick, test}
-use Rattle.program.specs.Walk.{CanShare, Holds, sendPlace, receivePlace}
-use Rattle.program.proofs.Sound.Histories.{claims-hold}
+use Rattle.program.specs.Test.{test}
 use Rattle.program.proofs.Maybe.{bind-elim}
-use Rattle.program.proofs.WellFormed.{WellFormed}
 use Rattle.machine.specs.declared.ThreadRecord.{ThreadRecord}
-use Rattle.machine.specs.Machine.{Machine, threadAt, begin, Order, alone, together, moved, within, Answer, refused, accepted, answer, left, watched}
-use Rattle.machine.specs.Meaning.{ownAt, envAt, returnsAt, stateIn, Marks, memoryOf, states}
-use Rattle.machine.specs.Standing.{StandsFor, Follows, done, refuses, accepts, Lined, firstPath, stepOf, Names}
+use Rattle.machine.specs.Machine.{Machine, threadAt, begin, Order, alone, together, moved, within, refused, accepted, answer, left, watched}
+use Rattle.machine.specs.Meaning.{ownAt, envAt, returnsAt, stateIn, Marks, states}
+use Rattle.machine.specs.Standing.{StandsFor, Follows, done, refuses, accepts, firstPath, stepOf, Names}
 use Rattle.machine.proofs.Flat.{flat, flat-moved}
 use Rattle.machine.proofs.Like.{Like, neither, both}
 use Rattle.machine.proofs.Meaning.{ThreadIn}
-use Rattle.machine.proofs.Changes.{Meant}
 use Rattle.machine.proofs.Leaves.{samePath, no-some, leaf-state}
 use Rattle.machine.proofs.Stands.{Stands, same-some, own-like}
 use Rattle.machine.proofs.Meetings.{meet-like}

@@ -1,6 +1,6 @@
 -- "A run on the workbench" (document 02, No. 3): threads, cells and frames, and what a move Makes of them. A bound name takes a cell, a waiting return takes a frame.
 use Prim.Native.Nat.{ℕ, zero, suc, _+_}
-use mathlib.Core.Bool.{Bool, true, false, _&&_, So}
+use mathlib.Core.Bool.{Bool, true, _&&_}
 use mathlib.Core.List.{List, [], _∷_, _++_}
 use mathlib.Core.Option.{Option, none, some}
 use lib.ListN.{length, set}

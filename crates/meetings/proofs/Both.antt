@@ -2,14 +2,14 @@
 use Prim.Native.Nat.{ℕ, suc, _+_}
 use native.Mathlib.Omega.{arith}
 use mathlib.Core.List.{[], _∷_}
-use mathlib.Core.Option.{Option, some}
-use mathlib.Core.Path.{_≡_, refl, sym, _∙_, ap, ap₂}
+use mathlib.Core.Option.{some}
+use mathlib.Core.Path.{_≡_, ap₂}
 use Rattle.program.specs.declared.Bind.{Bind}
 use Rattle.format.specs.Text.{Bytes}
 use Rattle.machine.specs.declared.ThreadRecord.{ThreadRecord}
 use Rattle.machine.specs.declared.Held.{Held}
 use Rattle.machine.specs.declared.Kept.the-variants.{Keeps}
-use Rattle.machine.specs.Machine.{Change, bound, grown, newest, goOn, bothGoOn}
+use Rattle.machine.specs.Machine.{bound, grown, newest, goOn, bothGoOn}
 use Rattle.run_memory.specs.declared.InUse.{InUse}
 use Rattle.run_memory.specs.RunMemory.{inUse, memoryIn}
 use Rattle.thread_changes.specs.Changes.{changeOf}

@@ -8,7 +8,6 @@ use mathlib.Core.Path.{_≡_, refl, sym, _∙_, ap}
 use lib.ListN.{length, set}
 use lib.Dec.{leb}
 use borrow.Author.Tests.{leb-true, le-leb, lt-leb}
-use Rattle.program.specs.Test.{pick}
 use Rattle.program.proofs.Test.{and-left, and-right}
 use Rattle.format.specs.declared.Reason.{Reason}
 use Rattle.format.specs.declared.Reason.the-variants.{MoveNotAllowed, LimitExceeded}
@@ -19,7 +18,7 @@ use Rattle.machine.specs.declared.Cell.{Cell}
 use Rattle.machine.specs.declared.Frame.{Frame}
 use Rattle.machine.specs.Machine.{Machine, Change, changedAll, within, cellLimit, frameLimit, threadLimit}
 use Rattle.run_memory.specs.declared.InUse.{InUse}
-use Rattle.run_memory.specs.RunMemory.{runSize, InLimits, inUse, counts, hasRoom, machineIn, pushCell, pushFrame, pushThread, pushCells, pushFrames, pushThreads, bytesAfter, placed, threadsAfter}
+use Rattle.run_memory.specs.RunMemory.{runSize, inUse, counts, hasRoom, machineIn, pushCell, pushFrame, pushThread, pushCells, pushFrames, pushThreads, bytesAfter, placed, threadsAfter}
 use Rattle.run_memory.proofs.Codec.{cell-pushed}
 use Rattle.run_calls.specs.declared.RunAnswer.{RunAnswer}
 use Rattle.run_calls.specs.RunCalls.{RunOutcome, Lends, LeavesRun, bytesAll, threadsAll, made}

@@ -1,7 +1,7 @@
 -- The answers and moves of the code.
 use Prim.Native.Nat.{ℕ}
 use mathlib.Core.List.{List, [], _∷_}
-use mathlib.Core.Option.{Option, none, some}
+use mathlib.Core.Option.{Option, some}
 use Rattle.program.specs.Maybe.{_>>=_}
 use Rattle.machine.specs.Machine.{Change}
 use Rattle.run_calls.specs.declared.RunAnswer.{RunAnswer}

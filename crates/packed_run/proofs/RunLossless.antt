@@ -1,10 +1,10 @@
 -- Every answer of the run calls is packed without loss: refusals carry line 0, and at most so many threads are in use as may be.
-use Prim.Native.Nat.{ℕ, _^_, _≤_, _<_}
+use Prim.Native.Nat.{ℕ}
 use native.Mathlib.Omega.{arith}
 use mathlib.Core.Bool.{Bool, true, false, not, _||_}
 use mathlib.Core.List.{List, [], _∷_}
 use mathlib.Core.Option.{Option, none, some}
-use mathlib.Core.Path.{_≡_, refl, sym, _∙_, ap, subst}
+use mathlib.Core.Path.{_≡_, refl, _∙_, ap}
 use lib.ListN.{length, take}
 use Rattle.program.specs.Program.{Program}
 use Rattle.program.specs.Test.{pick}
@@ -20,9 +20,10 @@ use Rattle.machine.specs.declared.ThreadRecord.{ThreadRecord}
 use Rattle.machine.specs.Machine.{Change, Order, changes, changedAll, within}
 use Rattle.run_memory.specs.RunMemory.{machineIn, soundRun}
 use Rattle.run_calls.specs.declared.RunAnswer.{RunAnswer}
-use Rattle.run_calls.specs.RunCalls.{runAnswer, RunOutcome, LeavesRun, tooShort, notBegun, storeOpened, runOpened, begunIn, beginWith, beginOn, made, moveWith, moveOn}
+use Rattle.run_calls.specs.RunCalls.{runAnswer, RunOutcome, LeavesRun, tooShort, notBegun, storeOpened, runOpened, begunIn, beginWith, beginOn, begin, made, moveWith, moveOn}
 use Rattle.run_calls.proofs.Left.{within-told}
 use Rattle.packing.specs.Packing.{packed, numberBits, Lossless}
+use Rattle.packing.proofs.Unpacking.{unpacked, values-back, refusal-back}
 use Rattle.packed_run.specs.declared.RunLeft.{RunLeft}
 use Rattle.packed_run.specs.PackedRun.{PackedLeaves}
 
@@ -82,6 +83,18 @@ module _ (store run : Bytes) (lent : ℕ) (ts : List ThreadRecord) where
       go : (x : Result Program) → Zero x → Packs (moveWith run ts o x .answer)
       go x (none-else r) = omega arith
       go x (fine {a = p}) = making (changes p (machineIn run ts) o)
+
+-- so that what a caller reads in the number is the answer
+run-back : (a : RunAnswer) → Packs a → unpacked numberBits 1 (packed numberBits (runAnswer a)) ≡ runAnswer a
+unfolding runAnswer
+run-back (RunAnswer.Threads n) h = values-back numberBits (n ∷ []) h
+run-back (RunAnswer.Refused r) h = refusal-back numberBits 1 r
+
+pub begin-read : (store run : Bytes) (ts : List ThreadRecord) → let a = runAnswer (begin store run ts .answer) in unpacked numberBits 1 (packed numberBits a) ≡ a
+begin-read store run ts = run-back (begin store run ts .answer) (begin-lossless store run (length ts) ts)
+
+pub move-read : (store run : Bytes) (ts : List ThreadRecord) (o : Order) → let a = runAnswer (moveOn store run (length ts) ts o .answer) in unpacked numberBits 1 (packed numberBits a) ≡ a
+move-read store run ts o = run-back (moveOn store run (length ts) ts o .answer) (move-lossless store run (length ts) ts o)
 
 -- the packed answer
 pub packed-leaves : {o : RunOutcome} {a : RunAnswer} {x : RunLeft} {run : Bytes} {ts : List ThreadRecord} → LeavesRun o a run ts → x .answer ≡ packed numberBits (runAnswer a) → x .records .list ≡ ts → PackedLeaves o x run

@@ -1,19 +1,19 @@
 -- What changes leave in run memory and thread records is the machine after them.
-use Prim.Native.Nat.{ℕ, zero, suc, _+_, _≤_, _<_}
+use Prim.Native.Nat.{ℕ, _+_, _≤_}
 use native.Mathlib.Omega.{arith}
-use mathlib.Core.Bool.{Bool, true, false, _&&_, So}
-use mathlib.Core.List.{List, [], _∷_, _++_}
-use mathlib.Core.Path.{_≡_, refl, sym, _∙_, ap, ap₂, subst}
+use mathlib.Core.Bool.{Bool, _&&_, So}
+use mathlib.Core.List.{List, [], _∷_}
+use mathlib.Core.Path.{_≡_, refl, sym, _∙_, ap, subst}
 use lib.ListN.{length, take, set, length-take, length-append, length-set}
 use lib.Dec.{leb}
 use borrow.Author.Tests.{leb-true}
 use Rattle.format.specs.Text.{Bytes}
 use Rattle.program.proofs.Test.{and-left, and-right}
 use Rattle.machine.specs.declared.ThreadRecord.{ThreadRecord}
-use Rattle.machine.specs.Machine.{Memory, Machine, Change, grown, changed, changedAll, within, cellLimit, frameLimit, threadLimit}
+use Rattle.machine.specs.Machine.{Machine, Change, grown, changed, changedAll, within, cellLimit, frameLimit, threadLimit}
 use Rattle.run_memory.specs.declared.InUse.{InUse}
 use Rattle.run_memory.specs.RunMemory.{inUse, memoryIn, machineIn, hasRoom, bytesAfter, threadsAfter}
-use Rattle.run_memory.proofs.Codec.{newest-is, frames-are, length-cells, length-frames, bytes-after, length-threads-after, machine-after}
+use Rattle.run_memory.proofs.Codec.{length-cells, length-frames, bytes-after, length-threads-after, machine-after}
 use Rattle.run_calls.specs.RunCalls.{Lends, bytesAll, threadsAll}
 
 -- how much is in use in a machine

@@ -5,13 +5,13 @@ use mathlib.Core.Bool.{Bool, true, false, not, _&&_, _||_, So}
 use mathlib.Core.List.{List}
 use mathlib.Core.Path.{_≡_, refl, sym, _∙_, ap}
 use lib.ListN.{length, take}
-use lib.Dec.{ltb, leb, eqb}
+use lib.Dec.{leb}
 use borrow.Author.Tests.{ltb-false, leb-true, not-false}
 use Rattle.program.specs.Program.{Program}
 use Rattle.program.specs.Test.{pick}
 use Rattle.program.proofs.Test.{and-left, and-right}
 use Rattle.format.specs.declared.Refusal.{Refusal}
-use Rattle.format.specs.Refusals.{refusal, Result, refused, accepted}
+use Rattle.format.specs.Refusals.{Result, refused, accepted}
 use Rattle.format.specs.Text.{Bytes}
 use Rattle.calls.specs.Calls.{isEmpty, unsound}
 use Rattle.calls.specs.Layout.{storeSize, decode}

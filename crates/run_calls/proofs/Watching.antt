@@ -1,17 +1,16 @@
 -- The run calls do what the machine does: after beginning and any moves, run memory and records hold the machine that the same moves leave.
-use Prim.Native.Nat.{ℕ, zero, suc, _+_, _≤_, _<_}
+use Prim.Native.Nat.{ℕ, _+_, _≤_, _<_}
 use native.Mathlib.Omega.{arith}
-use mathlib.Core.Bool.{Bool, true, false, not, _&&_, _||_, So}
-use mathlib.Core.List.{List, [], _∷_, _++_}
+use mathlib.Core.Bool.{Bool, true, false, not, So}
+use mathlib.Core.List.{List, [], _∷_, _++_, append-nil}
 use mathlib.Core.Option.{Option, none, some}
-use mathlib.Core.Path.{_≡_, refl, sym, _∙_, ap, ap₂, subst}
-use lib.ListN.{length, set, take, length-set}
-use lib.Dec.{ltb, leb, eqb}
+use mathlib.Core.Path.{_≡_, refl, sym, _∙_, ap, subst}
+use lib.ListN.{length, take, length-set}
+use lib.Seq.{append-snoc}
 use borrow.Author.Tests.{le-ltb, le-leb, ne-eqb}
-use Rattle.program.specs.Each.{Each, nil, _&_}
+use Rattle.program.specs.Each.{nil, _&_}
 use Rattle.program.specs.Maybe.{_>>=_}
 use Rattle.program.specs.Program.{Program}
-use Rattle.program.specs.Test.{pick}
 use Rattle.program.proofs.Maybe.{found-at}
 use Rattle.program.proofs.Test.{and-intro}
 use Rattle.program.proofs.WellFormed.{WellFormed}
@@ -19,7 +18,7 @@ use Rattle.format.specs.Refusals.{number, refusal, Result, refused, accepted}
 use Rattle.format.specs.Text.{Bytes}
 use Rattle.format.specs.Document.{Document}
 use Rattle.format.specs.declared.Reason.the-variants.{LimitExceeded}
-use Rattle.calls.specs.Answers.{answered, refusalAnswer}
+use Rattle.calls.specs.Answers.{turnedBack, answered, refusalAnswer}
 use Rattle.calls.specs.Calls.{isEmpty, unsound, openedFixed, opened}
 use Rattle.calls.specs.Exact.{StoreHolds}
 use Rattle.calls.specs.Layout.{storeSize, decode}
@@ -29,15 +28,14 @@ use Rattle.machine.specs.declared.ThreadRecord.{ThreadRecord}
 use Rattle.machine.specs.Machine as machine
 use Rattle.machine.specs.Machine.{Machine, Change, Order, changes, changedAll, moved, within, answer, left, watched, sound, cellLimit, frameLimit, threadLimit}
 use Rattle.machine.proofs.Sound.{watched-sound}
-use Rattle.machine.proofs.Taking.{moved-uses}
+use Rattle.machine.proofs.Taking.{moved-uses, run-shown}
 use Rattle.run_memory.specs.declared.InUse.{InUse}
-use Rattle.run_memory.specs.RunMemory.{runSize, inUse, counts, counted, machineIn, withinLimits, soundRun}
+use Rattle.run_memory.specs.RunMemory.{runSize, inUse, counts, machineIn, withinLimits, soundRun}
 use Rattle.run_memory.proofs.Codec.{begun, counted-in-use, length-counted}
 use Rattle.run_calls.specs.declared.RunAnswer.{RunAnswer}
 use Rattle.run_calls.specs.RunCalls.{runAnswer, RunOutcome, Lends, tooShort, notBegun, storeOpened, runOpened, begunIn, beginWith, beginOn, begin, turnedAway, bytesAll, threadsAll, made, moveWith, moveOn}
-use Rattle.run_calls.specs.Watching.{Lent, leaves, moveIn, played, orders, RowsAre, AllRows, answerIn}
+use Rattle.run_calls.specs.Watching.{Lent, lentOf, leaves, moveIn, played, orders, RowsAre, AllRows, answerIn, WatchedRun}
 use Rattle.run_calls.proofs.Left.{Uses, uses-in, Within, within-told, left-all}
-use Rattle.run_calls.proofs.Opened.{passes, LongEnough, long-told}
 
 -- ---- a store that opens
 
@@ -206,3 +204,88 @@ module _ (p : Program) (l : Lent) (os : List Order) (h : Watching p l os) (store
       go : (q : Option (List (ℕ × Change))) → changes p m o ≡ q → Moves o
       go none e = let a = none-is e in done _ (same ∙ ap (made run ts) e) (sym (ap answerIn a)) (stays o (left-refused 30 a))
       go (some cs) e = fitting cs e (within (changedAll m cs)) refl
+
+-- ---- beginning
+
+module _ (store run : Bytes) (ts : List ThreadRecord) (d : Document) (holds : StoreHolds store d) (long : runSize ≤ length run) (records : threadLimit ≤ length ts) where
+  begin-is : begin store run ts ≡ begunIn run ts
+  unfolding beginOn storeOpened beginWith tooShort
+  begin-is =
+      let a = le-ltb (length store) storeSize (holds .long) in
+      let b = le-ltb (length run) runSize long in
+      let c = le-ltb (length ts) threadLimit records in
+      let e : openedFixed (take storeSize store) ≡ accepted d = sym (long-opened store (holds .long)) ∙ opened-iff store d .1 holds in
+      rw (a, b, c, e)
+
+  -- beginning is accepted, and leaves the machine at its beginning
+  pub begins : (runAnswer (begin store run ts .answer) ≡ answered (1 ∷ [])) × Watching (d .rows) (leaves (begin store run ts)) []
+  unfolding begunIn runAnswer watched
+  begins = (
+    ap (λ (x : RunOutcome). runAnswer (x .answer)) begin-is,
+    subst (λ (x : RunOutcome). Watching (d .rows) (leaves x) []) (sym begin-is) (record {
+      lends = record {
+        long = (let z = length-counted run (counts 1 0 0) in omega (arith, z, long));
+        records = (let z = length-set ts 0 (record { row = 0; cell = 0; frame = 0 }) in omega (arith, z, records));
+        threads = (let z = ap (λ (n : InUse). n .threads) (counted-in-use run (counts 1 0 0) long) in omega (arith, z));
+      };
+      machine-is = begun run long ts (omega (arith, records));
+    }),
+  )
+
+-- ---- any calls
+
+-- the moves of calls, behind those that were made before
+watching-all : (p : Program) (calls : List (Bytes × Order)) (l : Lent) (os : List Order) → Watching p l os → AllRows p calls → Watching p (played l calls) (os ++ orders calls)
+unfolding played orders
+watching-all p [] l os h nil = subst (Watching p l) (sym (append-nil os)) h
+watching-all p ((store, o) ∷ calls) l os h ((d, holds, rows) & rest) =
+    subst (Watching p (played (leaves (moveIn store l o)) calls)) (append-snoc os o (orders calls))
+    (watching-all p calls (leaves (moveIn store l o)) (os ++ (o ∷ [])) (moves p l os h store d holds rows o .watching) rest)
+
+-- a run from beginning by any calls, with any stores of the same rows, stands for the pool that the steps of its accepted moves leave, and the next move answers as the run rules say
+pub watched-run : (p : Program) (store run : Bytes) (ts : List ThreadRecord) → RowsAre p store → runSize ≤ length run → threadLimit ≤ length ts
+    → (runAnswer (begin store run ts .answer) ≡ answered (1 ∷ [])) × ((calls : List (Bytes × Order)) → AllRows p calls → WatchedRun p (played (leaves (begin store run ts)) calls) (orders calls))
+watched-run p store run ts (d, holds, rows) long records =
+    let (a, w) = begins store run ts d holds long records in (a, λ calls all. go calls all (subst (λ (p : Program). Watching p (leaves (begin store run ts)) []) rows w))
+  where
+    go : (calls : List (Bytes × Order)) → AllRows p calls → Watching p (leaves (begin store run ts)) [] → WatchedRun p (played (leaves (begin store run ts)) calls) (orders calls)
+    go calls all w =
+        let l : Lent = played (leaves (begin store run ts)) calls in
+        let os : List Order = orders calls in
+        let h : Watching p l os = watching-all p calls (leaves (begin store run ts)) [] w all in
+        record {
+          shown = run-shown p os;
+          machine-is = h .machine-is;
+          answers = λ store (d, holds, rows) o. moves p l os h store d holds rows o .answers;
+        }
+
+-- ---- refused calls
+
+-- "both leave the run as before"; and so do 20 to 22
+module _ (store run : Bytes) (ts : List ThreadRecord) (n line : ℕ) where
+  begin-as-before : (x : Result Document) → runAnswer (beginWith run ts x .answer) ≡ turnedBack n line → (beginWith run ts x .run ≡ run) × (beginWith run ts x .threads ≡ ts)
+  unfolding beginWith begunIn runAnswer
+  begin-as-before (refused r) e = (refl, refl)
+  begin-as-before (accepted d) e = let z : _≡_ {A = ℕ} 0 1 = cc in absurd (omega arith)
+
+  pub begin-refused : runAnswer (begin store run ts .answer) ≡ turnedBack n line → (begin store run ts .run ≡ run) × (begin store run ts .threads ≡ ts)
+  unfolding beginOn
+  begin-refused e = begin-as-before (storeOpened store run (length ts)) e
+
+  made-as-before : (q : Option (List (ℕ × Change))) → runAnswer (made run ts q .answer) ≡ turnedBack n line → (made run ts q .run ≡ run) × (made run ts q .threads ≡ ts)
+  unfolding made runAnswer
+  made-as-before none e = (refl, refl)
+  made-as-before (some cs) e = go (within (changedAll (machineIn run ts) cs)) refl
+    where
+      go : (b : Bool) → within (changedAll (machineIn run ts) cs) ≡ b → (made run ts (some cs) .run ≡ run) × (made run ts (some cs) .threads ≡ ts)
+      go true w = let f = rw (w, made) at e in let z : _≡_ {A = ℕ} 0 1 = cc in absurd (omega arith)
+      go false w = rw (w, made) (refl, refl)
+
+  pub move-refused : (o : Order) → runAnswer (moveIn store (lentOf run ts) o .answer) ≡ turnedBack n line
+      → (moveIn store (lentOf run ts) o .run ≡ run) × (moveIn store (lentOf run ts) o .threads ≡ ts)
+  unfolding moveOn moveWith runAnswer
+  move-refused o e = go (runOpened store run (length ts) ts) e
+    where
+      go : (x : Result Program) → runAnswer (moveWith run ts o x .answer) ≡ turnedBack n line → (moveWith run ts o x .run ≡ run) × (moveWith run ts o x .threads ≡ ts)
+      go (refused r) e = (refl, refl)
+      go (accepted p) e = made-as-before (changes p (machineIn run ts) o) e

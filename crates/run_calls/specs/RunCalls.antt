@@ -4,7 +4,7 @@
 --   meet    the same for a sending and a receiving one
 -- The contract of each public function is equality with its definition here.
 use Prim.Native.Nat.{ℕ, _≤_}
-use mathlib.Core.Bool.{Bool, true, false, not, _||_}
+use mathlib.Core.Bool.{Bool, not, _||_}
 use mathlib.Core.List.{List, [], _∷_}
 use mathlib.Core.Option.{Option, none, some}
 use mathlib.Core.Path.{_≡_}
@@ -12,7 +12,6 @@ use lib.ListN.{length, set, take}
 use lib.Dec.{ltb, eqb}
 use Rattle.program.specs.Program.{Program}
 use Rattle.program.specs.Test.{pick}
-use Rattle.format.specs.declared.Reason.{Reason}
 use Rattle.format.specs.declared.Reason.the-variants.{StoreTooShort, StoreEmpty, StoreUnsound, MoveNotAllowed, LimitExceeded}
 use Rattle.format.specs.declared.Refusal.{Refusal}
 use Rattle.format.specs.Refusals.{refusal, Result, refused, accepted}

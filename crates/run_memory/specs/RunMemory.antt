@@ -3,9 +3,9 @@
 --   slot k          cell k: name, kind, row, older, cell. Kind 0 is unit, 1 a channel that this cell made, 2 a channel that another made, any other a closure
 --   slot 4096 + k   frame k: name, rest, 0, cell, older
 use Prim.Native.Nat.{ℕ, zero, suc, _+_, _*_, _/_, _%_, _≤_}
-use mathlib.Core.Bool.{Bool, true, false, _&&_}
+use mathlib.Core.Bool.{Bool, _&&_}
 use mathlib.Core.List.{List, [], _∷_}
-use lib.ListN.{length, set, getD, take}
+use lib.ListN.{set, getD, take}
 use lib.Seq.{sets}
 use lib.Dec.{eqb, leb}
 use Rattle.program.specs.Test.{pick}

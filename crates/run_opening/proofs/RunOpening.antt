@@ -1,15 +1,14 @@
 -- Opening a run: what its tests tell, one after the other.
 use Prim.Native.Nat.{ℕ, _≤_}
 use native.Mathlib.Omega.{arith}
-use mathlib.Core.Bool.{Bool, true, false, not, _||_}
+use mathlib.Core.Bool.{Bool, true, false, _||_}
 use mathlib.Core.List.{List}
 use mathlib.Core.Path.{_≡_, refl, sym, _∙_, ap, subst}
 use lib.ListN.{length, take}
 use lib.Seq.{length-take-le}
-use lib.Dec.{ltb, eqb}
+use lib.Dec.{eqb}
 use borrow.Author.Tests.{eq-eqb, ne-eqb, le-ltb}
 use Rattle.program.specs.Program.{Program}
-use Rattle.program.specs.Test.{pick}
 use Rattle.format.specs.declared.Refusal.{Refusal}
 use Rattle.format.specs.declared.Reason.the-variants.{StoreTooShort, StoreEmpty, StoreUnsound}
 use Rattle.format.specs.Limits.{rowLimit}
@@ -29,8 +28,8 @@ use Rattle.machine.specs.Machine.{threadLimit}
 use Rattle.run_memory.specs.declared.InUse.{InUse}
 use Rattle.run_memory.specs.RunMemory.{inUse, soundRun}
 use Rattle.run_calls.specs.RunCalls.{tooShort, notBegun, runOpened}
-use Rattle.run_calls.proofs.Opened.{LongEnough, long-told, opened-told, is-lent, is-limited}
-use Rattle.run_opening.specs.RunOpening.{RunOpens, RunOpenedIs}
+use Rattle.run_calls.proofs.Opened.{long-told, opened-told, is-lent, is-limited}
+use Rattle.run_opening.specs.RunOpening.{RunOpenedIs}
 
 or-true : (a : Bool) → a || true ≡ true
 or-true true = refl

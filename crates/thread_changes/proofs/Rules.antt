@@ -11,7 +11,6 @@ use Rattle.program.specs.Program.{Program, rowAt}
 use Rattle.program.specs.Maybe.{_<|>_}
 use Rattle.format.specs.Text.{Bytes}
 use Rattle.machine.specs.declared.ThreadRecord.{ThreadRecord}
-use Rattle.machine.specs.declared.Cell.{Cell}
 use Rattle.machine.specs.declared.Held.{Held}
 use Rattle.machine.specs.declared.Held.the-variants.{Closure}
 use Rattle.machine.specs.declared.Kept.{Kept}

@@ -5,24 +5,16 @@ use Rattle.thread_records.specs.declared.Records.{Records}
 use borrow.Author.Needs.{needs}
 use Rattle.call_run.proofs.begin_rows.Statement.{statement}
 use Rattle.call_run.proofs.begin_rows.Tie as tie
-use Rattle.call_run.proofs.begin_rows.Reads as reads
-use Rattle.call_run.proofs.begin_rows.Lts as lts
-use Rattle.run_memory.proofs.put_counts.Reads as put-counts-reads
-use Rattle.thread_records.proofs.with_record.Reads as with-record-reads
 
--- src/lib.rt:34:5
 put-counts-requires : tie.Need-put-counts-requires
 put-counts-requires c κs = search needs
 
--- src/lib.rt:49:18
 with-record-requires : tie.Need-with-record-requires
 with-record-requires c κs = search needs
 
--- src/lib.rt:30:1
 same-length : tie.Need-same-length
 same-length c = search needs
 
--- src/lib.rt:30:1
 returns : tie.Need-returns
 unfolding begunIn
 returns c = record { answer-is = refl; run-is = c .before .before .before .put-counts .ensures; threads-are = ap (λ (r : Records). r .list) (c .with-record .ensures) }

@@ -7,67 +7,46 @@ use Rattle.call_run.proofs.RunMoves.{none-leaves, leaves-same, no-sende
 use borrow.Author.Needs.{needs}
 use Rattle.call_run.proofs.meet_rows.Statement.{statement}
 use Rattle.call_run.proofs.meet_rows.Tie as tie
-use Rattle.call_run.proofs.meet_rows.Reads as reads
-use Rattle.call_run.proofs.meet_rows.Lts as lts
-use Rattle.meetings.proofs.meeting.Reads as meeting-reads
-use Rattle.moves.proofs.make_meeting.Reads as make-meeting-reads
-use Rattle.moves.proofs.refuse.Reads as refuse-reads
-use Rattle.run_memory.proofs.in_use.Reads as in-use-reads
-use Rattle.thread_records.proofs.record_at.Reads as record-at-reads
 
--- src/lib.rt:99:9
 in-use-requires : tie.Need-in-use-requires
 in-use-requires c κs = search needs
 
--- src/lib.rt:100:16
 cast-used : tie.Need-cast-used
 cast-used c = search needs
 
--- src/lib.rt:102:9
 refuse-requires : tie.Need-refuse-requires
 refuse-requires c κs = search needs
 
--- src/lib.rt:102:9
 same-length : tie.Need-same-length
 same-length c = search needs
 
--- src/lib.rt:102:9
 returns : tie.Need-returns
 returns c = refused-leaves (c .refuse .ensures) (none-leaves _ _ _ (no-sender _ _ _ _ _ (let e = ap (λ (n : InUse). n .threads) (c .before .before .before .in-use .ensures) in omega (arith, e, c .before .if1 .taken))))
 
--- src/lib.rt:105:9
 refuse-requires-2 : tie.Need-refuse-requires-2
 refuse-requires-2 c κs = search needs
 
--- src/lib.rt:105:9
 same-length-2 : tie.Need-same-length-2
 same-length-2 c = search needs
 
--- src/lib.rt:105:9
 returns-2 : tie.Need-returns-2
 returns-2 c = let e = ap (λ (n : InUse). n .threads) (c .before .before .before .before .in-use .ensures) in refused-leaves (c .refuse2 .ensures) (none-leaves _ _ _ (no-receiver _ _ _ (omega (arith, c .before .before .before .before .before .before .before .before .pre .0 .records, c .before .before .before .before .before .before .before .before .pre .0 .threads)) _ _ (omega (arith, e, c .before .before .if1 .left)) (omega (arith, e, c .before .if2 .taken))))
 
--- src/lib.rt:107:9
 record-at-requires : tie.Need-record-at-requires
 record-at-requires c κs = let e = ap (λ (n : InUse). n .threads) (c .before .before .before .in-use .ensures) in omega (arith, e, c .before .if1 .left, c .before .before .before .before .before .before .before .pre .0 .threads)
 
--- src/lib.rt:108:9
 record-at-requires-2 : tie.Need-record-at-requires-2
 record-at-requires-2 c κs = let e = ap (λ (n : InUse). n .threads) (c .before .before .before .before .in-use .ensures) in omega (arith, e, c .before .if2 .left, c .before .before .before .before .before .before .before .before .pre .0 .threads)
 
--- src/lib.rt:109:9
 meeting-requires : tie.Need-meeting-requires
 meeting-requires c κs = search needs
 
--- src/lib.rt:110:5
 make-meeting-requires : tie.Need-make-meeting-requires
 make-meeting-requires c κs = let e = ap (λ (n : InUse). n .threads) (c .before .before .before .before .before .before .before .before .in-use .ensures) in (c .before .before .before .before .before .before .before .before .before .before .before .before .pre .0, (c .before .before .before .before .before .before .before .before .before .before .before .before .pre .1, (omega (arith, e, c .before .before .before .before .before .if2 .left, c .before .before .before .before .before .before .before .before .before .before .before .before .pre .0 .threads), omega (arith, e, c .before .before .before .before .before .before .if1 .left, c .before .before .before .before .before .before .before .before .before .before .before .before .pre .0 .threads))))
 
--- src/lib.rt:87:1
 same-length-3 : tie.Need-same-length-3
 same-length-3 c = search needs
 
--- src/lib.rt:87:1
 returns-3 : tie.Need-returns-3
 returns-3 c = let e = ap (λ (n : InUse). n .threads) (c .before .before .before .before .before .before .before .before .before .before .before .in-use .ensures) in leaves-same _ _ (together-is _ _ _ (omega (arith, c .before .before .before .before .before .before .before .before .before .before .before .before .before .before .before .pre .0 .records, c .before .before .before .before .before .before .before .before .before .before .before .before .before .before .before .pre .0 .threads)) _ _ _ (omega (arith, e, c .before .before .before .before .before .before .before .before .before .if1 .left)) (omega (arith, e, c .before .before .before .before .before .before .before .before .if2 .left)) (c .before .before .before .before .before .before .before .record-at .ensures) (c .before .before .before .before .before .before .record-at2 .ensures) (c .before .before .before .before .meeting .ensures)) (c .before .before .make-meeting .ensures)
 

@@ -4,44 +4,31 @@ use Rattle.call_run.proofs.RunMoves.{move-refused, move-opened, opens-k
 use borrow.Author.Needs.{needs}
 use Rattle.call_run.proofs.move_thread.Statement.{statement}
 use Rattle.call_run.proofs.move_thread.Tie as tie
-use Rattle.call_run.proofs.move_thread.Reads as reads
-use Rattle.call_run.proofs.move_thread.Lts as lts
-use Rattle.call_run.proofs.move_rows.Reads as move-rows-reads
-use Rattle.run_opening.proofs.open_run.Reads as open-run-reads
 
--- src/lib.rt:117:11
 open-run-requires : tie.Need-open-run-requires
 open-run-requires c κs = search needs
 
--- src/lib.rt:118:25
 enum-known-refusal : tie.Need-enum-known-refusal
 enum-known-refusal c = search needs
 
--- src/lib.rt:122:22
 enum-known-rows : tie.Need-enum-known-rows
 enum-known-rows c = search needs
 
--- src/lib.rt:122:41
 slice-aggregate-move-rows : tie.Need-slice-aggregate-move-rows
 slice-aggregate-move-rows c = sym (opens-known _ _ _ _ _ (rw (c .before .before .rows .given .1) at (c .before .before .before .before .open-run .ensures)) .1 .size)
 
--- src/lib.rt:122:31
 move-rows-requires : tie.Need-move-rows-requires
 move-rows-requires c κs = let k = opens-known _ _ _ _ _ (rw (c .before .before .before .rows .given .1) at (c .before .before .before .before .before .open-run .ensures)) .1 in (k .lends, k .limits)
 
--- src/lib.rt:114:1
 same-length : tie.Need-same-length
 same-length c = search needs
 
--- src/lib.rt:114:1
 returns : tie.Need-returns
 returns c = move-refused _ _ _ _ _ _ (rw (c .before .refusal .given .1) at (c .before .before .before .open-run .ensures))
 
--- src/lib.rt:114:1
 same-length-2 : tie.Need-same-length-2
 same-length-2 c = search needs
 
--- src/lib.rt:114:1
 returns-2 : tie.Need-returns-2
 returns-2 c = move-opened _ _ _ _ _ _ (rw (c .before .before .before .before .before .before .rows .given .1) at (c .before .before .before .before .before .before .before .before .open-run .ensures)) (c .before .before .move-rows .ensures)
 

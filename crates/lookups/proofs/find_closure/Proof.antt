@@ -1,52 +1,40 @@
+-- What is found is a closure or not.
 use Rattle.program.specs.Maybe.{_>>=_}
 use Rattle.machine.specs.Machine.{closureHeldBy, findClosure}
 use borrow.Author.Needs.{needs}
 use Rattle.lookups.proofs.find_closure.Statement.{statement}
 use Rattle.lookups.proofs.find_closure.Tie as tie
-use Rattle.lookups.proofs.find_closure.Reads as reads
-use Rattle.lookups.proofs.find_closure.Lts as lts
-use Rattle.lookups.proofs.find.Reads as find-reads
 
--- src/lib.rt:70:11
 find-requires : tie.Need-find-requires
 find-requires c κs = search needs
 
--- src/lib.rt:71:27
 enum-told : tie.Need-enum-told
 enum-told c = search needs
 
--- src/lib.rt:72:22
 enum-known-held : tie.Need-enum-known-held
 enum-known-held c = search needs
 
--- src/lib.rt:73:27
 enum-told-2 : tie.Need-enum-told-2
 enum-told-2 c = search needs
 
--- src/lib.rt:74:33
 enum-told-3 : tie.Need-enum-told-3
 enum-told-3 c = search needs
 
--- src/lib.rt:75:27
 enum-known-held-2 : tie.Need-enum-known-held-2
 enum-known-held-2 c = search needs
 
--- src/lib.rt:67:1
 returns : tie.Need-returns
 unfolding findClosure _>>=_
 returns c = rw (← c .before .before .find .ensures, c .enum-told .given .1)
 
--- src/lib.rt:67:1
 returns-2 : tie.Need-returns-2
 unfolding findClosure closureHeldBy _>>=_
 returns-2 c = rw (← c .before .before .before .before .before .find .ensures, c .before .before .before .held .given .1, c .enum-told2 .given .1)
 
--- src/lib.rt:67:1
 returns-3 : tie.Need-returns-3
 unfolding findClosure closureHeldBy _>>=_
 returns-3 c = rw (← c .before .before .before .before .before .find .ensures, c .before .before .before .held .given .1, c .enum-told3 .given .1)
 
--- src/lib.rt:67:1
 returns-4 : tie.Need-returns-4
 unfolding findClosure closureHeldBy _>>=_
 returns-4 c = rw (← c .before .before .before .before .before .before .find .ensures, c .before .before .before .before .held .given .1, c .before .held2 .given .1)

@@ -8,30 +8,21 @@ use Rattle.lookups.proofs.Cells.{frame-zero, frame-above, frame-there}
 use borrow.Author.Needs.{needs}
 use Rattle.lookups.proofs.find_frame.Statement.{statement}
 use Rattle.lookups.proofs.find_frame.Tie as tie
-use Rattle.lookups.proofs.find_frame.Reads as reads
-use Rattle.lookups.proofs.find_frame.Lts as lts
-use Rattle.run_memory.proofs.frame_at.Reads as frame-at-reads
-use Rattle.run_memory.proofs.in_use.Reads as in-use-reads
 
--- src/lib.rt:106:9
 returns : tie.Need-returns
 unfolding memoryIn
 returns c = rw (c .if1 .taken) (sym (frame-zero _ _))
 
--- src/lib.rt:108:9
 in-use-requires : tie.Need-in-use-requires
 in-use-requires c κs = search needs
 
--- src/lib.rt:110:9
 returns-2 : tie.Need-returns-2
 unfolding memoryIn
 returns-2 c = let e = ap (λ (n : InUse). n .frames) (c .before .before .in-use .ensures) in sym (frame-above _ _ _ (omega (arith, e, c .if2 .taken)))
 
--- src/lib.rt:112:23
 frame-at-requires : tie.Need-frame-at-requires
 frame-at-requires c κs = let e = ap (λ (n : InUse). n .frames) (c .before .before .in-use .ensures) in omega (arith, e, c .before .before .before .before .before .pre .frames, c .if2 .left)
 
--- src/lib.rt:101:1
 returns-3 : tie.Need-returns-3
 unfolding memoryIn
 returns-3 c = let e = ap (λ (n : InUse). n .frames) (c .before .before .before .in-use .ensures) in ap some (c .frame-at .ensures) ∙ sym (frame-there _ _ _ (omega (arith, c .before .before .before .before .if1 .left)) (omega (arith, e, c .before .if2 .left)))

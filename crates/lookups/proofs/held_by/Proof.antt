@@ -1,24 +1,19 @@
+-- A cell that makes a channel has the channel of its own number.
 use Rattle.machine.specs.Machine.{heldBy}
 use borrow.Author.Needs.{needs}
 use Rattle.lookups.proofs.held_by.Statement.{statement}
 use Rattle.lookups.proofs.held_by.Tie as tie
-use Rattle.lookups.proofs.held_by.Reads as reads
-use Rattle.lookups.proofs.held_by.Lts as lts
 
--- src/lib.rt:36:24
 enum-told : tie.Need-enum-told
 enum-told c = search needs
 
--- src/lib.rt:37:21
 enum-known-kept : tie.Need-enum-known-kept
 enum-known-kept c = search needs
 
--- src/lib.rt:32:1
 returns : tie.Need-returns
 unfolding heldBy
 returns c = rw (c .enum-told .given .1)
 
--- src/lib.rt:32:1
 returns-2 : tie.Need-returns-2
 unfolding heldBy
 returns-2 c = rw (c .before .kept .given .1)

@@ -6,23 +6,16 @@ use Rattle.meetings.proofs.Both.{both-go-on}
 use borrow.Author.Needs.{needs}
 use Rattle.meetings.proofs.both_go_on.Statement.{statement}
 use Rattle.meetings.proofs.both_go_on.Tie as tie
-use Rattle.meetings.proofs.both_go_on.Reads as reads
-use Rattle.meetings.proofs.both_go_on.Lts as lts
-use Rattle.run_memory.proofs.in_use.Reads as in-use-reads
 
--- src/lib.rt:101:9
 in-use-requires : tie.Need-in-use-requires
 in-use-requires c κs = search needs
 
--- src/lib.rt:102:18
 add-newest : tie.Need-add-newest
 add-newest c = let e = ap (λ (n : InUse). n .cells) (c .before .in-use .ensures) in omega (arith, c .before .before .before .pre .cells, e)
 
--- src/lib.rt:120:15
 add-t15 : tie.Need-add-t15
 add-t15 c = let e = ap (λ (n : InUse). n .cells) (c .before .in-use .ensures) in omega (arith, c .before .before .before .pre .cells, e)
 
--- src/lib.rt:90:1
 returns : tie.Need-returns
 returns c = both-go-on _ _ _ _ _ _ _ (c .before .in-use .ensures)
 

@@ -5,29 +5,20 @@ use Rattle.forms.proofs.Forms.{kinds, but, sync-at, no-sync}
 use borrow.Author.Needs.{needs}
 use Rattle.meetings.proofs.event_at.Statement.{statement}
 use Rattle.meetings.proofs.event_at.Tie as tie
-use Rattle.meetings.proofs.event_at.Reads as reads
-use Rattle.meetings.proofs.event_at.Lts as lts
-use Rattle.forms.proofs.form_at.Reads as form-at-reads
-use Rattle.lookups.proofs.find_closure.Reads as find-closure-reads
 
--- src/lib.rt:36:32
 form-at-requires : tie.Need-form-at-requires
 form-at-requires c κs = search needs
 
--- src/lib.rt:36:22
 enum-known-event : tie.Need-enum-known-event
 enum-known-event c = search needs
 
--- src/lib.rt:37:9
 returns : tie.Need-returns
 unfolding eventOf _>>=_
 returns c = rw (sync-at _ _ (c .before .form-at .ensures), no-sync (but 9 kinds) _ tt (c .match .keys2))
 
--- src/lib.rt:39:5
 find-closure-requires : tie.Need-find-closure-requires
 find-closure-requires c κs = search needs
 
--- src/lib.rt:33:1
 returns-2 : tie.Need-returns-2
 unfolding eventOf _>>=_
 returns-2 c = rw (sync-at _ _ (c .before .before .before .before .form-at .ensures), c .before .before .event .given .1) (c .find-closure .ensures)

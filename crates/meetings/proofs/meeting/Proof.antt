@@ -6,109 +6,79 @@ use Rattle.machine.specs.Machine.{offers, meeting}
 use borrow.Author.Needs.{needs}
 use Rattle.meetings.proofs.meeting.Statement.{statement}
 use Rattle.meetings.proofs.meeting.Tie as tie
-use Rattle.meetings.proofs.meeting.Reads as reads
-use Rattle.meetings.proofs.meeting.Lts as lts
-use Rattle.forms.proofs.row_in.Reads as row-in-reads
-use Rattle.meetings.proofs.awaits.Reads as awaits-reads
-use Rattle.meetings.proofs.both_go_on.Reads as both-go-on-reads
-use Rattle.meetings.proofs.sends.Reads as sends-reads
-use Rattle.meetings.proofs.sends_what.Reads as sends-what-reads
 
--- src/lib.rt:137:24
 row-in-requires : tie.Need-row-in-requires
 row-in-requires c κs = search needs
 
--- src/lib.rt:137:19
 enum-known-b : tie.Need-enum-known-b
 enum-known-b c = search needs
 
--- src/lib.rt:138:9
 enum-told : tie.Need-enum-told
 enum-told c = search needs
 
--- src/lib.rt:138:9
 returns : tie.Need-returns
 unfolding meeting bindAt bindOf _>>=_
 returns c = rw (← c .before .before .row-in .ensures, c .enum-told .given .1)
 
--- src/lib.rt:140:24
 row-in-requires-2 : tie.Need-row-in-requires-2
 row-in-requires-2 c κs = search needs
 
--- src/lib.rt:140:19
 enum-known-d : tie.Need-enum-known-d
 enum-known-d c = search needs
 
--- src/lib.rt:141:9
 enum-told-2 : tie.Need-enum-told-2
 enum-told-2 c = search needs
 
--- src/lib.rt:141:9
 returns-2 : tie.Need-returns-2
 unfolding meeting bindAt bindOf _>>=_
 returns-2 c = rw (← c .before .before .before .before .before .before .row-in .ensures, c .before .before .before .before .b .given .1, ← c .before .before .row-in2 .ensures, c .enum-told2 .given .1)
 
--- src/lib.rt:143:36
 sends-requires : tie.Need-sends-requires
 sends-requires c κs = search needs
 
--- src/lib.rt:143:31
 enum-known-i : tie.Need-enum-known-i
 enum-known-i c = search needs
 
--- src/lib.rt:144:9
 enum-told-3 : tie.Need-enum-told-3
 enum-told-3 c = search needs
 
--- src/lib.rt:144:9
 returns-3 : tie.Need-returns-3
 unfolding meeting bindAt bindOf offers _>>=_
 returns-3 c = rw (← c .before .before .before .before .before .before .before .before .before .before .row-in .ensures, c .before .before .before .before .before .before .before .before .b .given .1, ← c .before .before .before .before .before .before .row-in2 .ensures, c .before .before .before .before .d .given .1, ← c .before .before .sends .ensures, c .enum-told3 .given .1)
 
--- src/lib.rt:146:33
 sends-what-requires : tie.Need-sends-what-requires
 sends-what-requires c κs = search needs
 
--- src/lib.rt:146:22
 enum-known-message : tie.Need-enum-known-message
 enum-known-message c = search needs
 
--- src/lib.rt:147:9
 enum-told-4 : tie.Need-enum-told-4
 enum-told-4 c = search needs
 
--- src/lib.rt:147:9
 returns-4 : tie.Need-returns-4
 unfolding meeting bindAt bindOf offers _>>=_
 returns-4 c = rw (← c .before .before .before .before .before .before .before .before .before .before .before .before .before .before .row-in .ensures, c .before .before .before .before .before .before .before .before .before .before .before .before .b .given .1, ← c .before .before .before .before .before .before .before .before .before .before .row-in2 .ensures, c .before .before .before .before .before .before .before .before .d .given .1, ← c .before .before .before .before .before .before .sends .ensures, c .before .before .before .before .i .given .1, ← c .before .before .sends-what .ensures, c .enum-told4 .given .1)
 
--- src/lib.rt:149:36
 awaits-requires : tie.Need-awaits-requires
 awaits-requires c κs = search needs
 
--- src/lib.rt:149:31
 enum-known-j : tie.Need-enum-known-j
 enum-known-j c = search needs
 
--- src/lib.rt:150:9
 enum-told-5 : tie.Need-enum-told-5
 enum-told-5 c = search needs
 
--- src/lib.rt:150:9
 returns-5 : tie.Need-returns-5
 unfolding meeting bindAt bindOf offers _>>=_
 returns-5 c = rw (← c .before .before .before .before .before .before .before .before .before .before .before .before .before .before .before .before .before .before .row-in .ensures, c .before .before .before .before .before .before .before .before .before .before .before .before .before .before .before .before .b .given .1, ← c .before .before .before .before .before .before .before .before .before .before .before .before .before .before .row-in2 .ensures, c .before .before .before .before .before .before .before .before .before .before .before .before .d .given .1, ← c .before .before .before .before .before .before .before .before .before .before .sends .ensures, c .before .before .before .before .before .before .before .before .i .given .1, ← c .before .before .before .before .before .before .sends-what .ensures, c .before .before .before .before .message .given .1, ← c .before .before .awaits .ensures, c .enum-told5 .given .1)
 
--- src/lib.rt:153:9
 both-go-on-requires : tie.Need-both-go-on-requires
 both-go-on-requires c κs = c .before .before .before .before .before .before .before .before .before .before .before .before .before .before .before .before .before .before .before .before .before .before .before .pre
 
--- src/lib.rt:153:9
 returns-6 : tie.Need-returns-6
 unfolding meeting bindAt bindOf offers given _>>=_
 returns-6 c = rw (← c .before .before .before .before .before .before .before .before .before .before .before .before .before .before .before .before .before .before .before .before .before .row-in .ensures, c .before .before .before .before .before .before .before .before .before .before .before .before .before .before .before .before .before .before .before .b .given .1, ← c .before .before .before .before .before .before .before .before .before .before .before .before .before .before .before .before .before .row-in2 .ensures, c .before .before .before .before .before .before .before .before .before .before .before .before .before .before .before .d .given .1, ← c .before .before .before .before .before .before .before .before .before .before .before .before .before .sends .ensures, c .before .before .before .before .before .before .before .before .before .before .before .i .given .1, ← c .before .before .before .before .before .before .before .before .before .sends-what .ensures, c .before .before .before .before .before .before .before .message .given .1, ← c .before .before .before .before .before .awaits .ensures, c .before .before .before .j .given .1, eq-eqb _ _ (c .before .if1 .taken)) (c .both-go-on .ensures)
 
--- src/lib.rt:127:1
 returns-7 : tie.Need-returns-7
 unfolding meeting bindAt bindOf offers given _>>=_
 returns-7 c = rw (← c .before .before .before .before .before .before .before .before .before .before .before .before .before .before .before .before .before .before .before .before .row-in .ensures, c .before .before .before .before .before .before .before .before .before .before .before .before .before .before .before .before .before .before .b .given .1, ← c .before .before .before .before .before .before .before .before .before .before .before .before .before .before .before .before .row-in2 .ensures, c .before .before .before .before .before .before .before .before .before .before .before .before .before .before .d .given .1, ← c .before .before .before .before .before .before .before .before .before .before .before .before .sends .ensures, c .before .before .before .before .before .before .before .before .before .before .i .given .1, ← c .before .before .before .before .before .before .before .before .sends-what .ensures, c .before .before .before .before .before .before .message .given .1, ← c .before .before .before .before .awaits .ensures, c .before .before .j .given .1, ne-eqb _ _ (c .if1 .left))

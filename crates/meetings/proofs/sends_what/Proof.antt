@@ -5,47 +5,33 @@ use Rattle.forms.proofs.Forms.{kinds, but, send-at, no-send}
 use borrow.Author.Needs.{needs}
 use Rattle.meetings.proofs.sends_what.Statement.{statement}
 use Rattle.meetings.proofs.sends_what.Tie as tie
-use Rattle.meetings.proofs.sends_what.Reads as reads
-use Rattle.meetings.proofs.sends_what.Lts as lts
-use Rattle.forms.proofs.form_at.Reads as form-at-reads
-use Rattle.lookups.proofs.find.Reads as find-reads
-use Rattle.meetings.proofs.event_at.Reads as event-at-reads
 
--- src/lib.rt:63:39
 event-at-requires : tie.Need-event-at-requires
 event-at-requires c κs = search needs
 
--- src/lib.rt:63:31
 enum-known-r : tie.Need-enum-known-r
 enum-known-r c = search needs
 
--- src/lib.rt:64:9
 enum-told : tie.Need-enum-told
 enum-told c = search needs
 
--- src/lib.rt:64:9
 returns : tie.Need-returns
 unfolding sendsWhat _>>=_
 returns c = rw (← c .before .before .event-at .ensures, c .enum-told .given .1)
 
--- src/lib.rt:69:9
 form-at-requires : tie.Need-form-at-requires
 form-at-requires c κs = search needs
 
--- src/lib.rt:68:9
 enum-known-message : tie.Need-enum-known-message
 enum-known-message c = search needs
 
--- src/lib.rt:71:9
 returns-2 : tie.Need-returns-2
 unfolding sendsWhat _>>=_
 returns-2 c = rw (← c .before .before .before .before .before .event-at .ensures, c .before .before .before .r .given .1, send-at _ _ (c .before .form-at .ensures), no-send (but 2 kinds) _ tt (c .match2 .keys2))
 
--- src/lib.rt:73:5
 find-requires : tie.Need-find-requires
 find-requires c κs = search needs
 
--- src/lib.rt:60:1
 returns-3 : tie.Need-returns-3
 unfolding sendsWhat _>>=_
 returns-3 c = rw (← c .before .before .before .before .before .before .before .before .event-at .ensures, c .before .before .before .before .before .before .r .given .1, send-at _ _ (c .before .before .before .before .form-at .ensures), c .before .before .message .given .1) (c .find .ensures)

@@ -6,35 +6,25 @@ use Rattle.moves.proofs.Making.{no-cells, no-frames, no-more}
 use borrow.Author.Needs.{needs}
 use Rattle.moves.proofs.has_room.Statement.{statement}
 use Rattle.moves.proofs.has_room.Tie as tie
-use Rattle.moves.proofs.has_room.Reads as reads
-use Rattle.moves.proofs.has_room.Lts as lts
-use Rattle.run_memory.proofs.in_use.Reads as in-use-reads
 
--- src/lib.rt:42:9
 in-use-requires : tie.Need-in-use-requires
 in-use-requires c κs = search needs
 
--- src/lib.rt:43:22
 add-cells-then : tie.Need-add-cells-then
 add-cells-then c = let e = ap (λ (n : InUse). n .cells) (c .before .in-use .ensures) in omega (arith, c .before .before .before .pre .0 .cells, c .before .before .before .pre .1 .1 .0, e)
 
--- src/lib.rt:44:23
 add-frames-then : tie.Need-add-frames-then
 add-frames-then c = let e = ap (λ (n : InUse). n .frames) (c .before .before .in-use .ensures) in omega (arith, c .before .before .before .before .pre .0 .frames, c .before .before .before .before .pre .1 .1 .1, e)
 
--- src/lib.rt:45:24
 add-threads-then : tie.Need-add-threads-then
 add-threads-then c = let e = ap (λ (n : InUse). n .threads) (c .before .before .before .in-use .ensures) in omega (arith, c .before .before .before .before .before .pre .1 .0, c .before .before .before .before .before .pre .1 .1 .2, e)
 
--- src/lib.rt:47:9
 returns : tie.Need-returns
 returns c = no-cells _ _ _ _ _ (c .before .before .before .before .in-use .ensures) (c .if1 .taken)
 
--- src/lib.rt:50:9
 returns-2 : tie.Need-returns-2
 returns-2 c = no-frames _ _ _ _ _ (c .before .before .before .before .before .in-use .ensures) (c .before .if1 .left) (c .if2 .taken)
 
--- src/lib.rt:36:1
 returns-3 : tie.Need-returns-3
 returns-3 c = no-more _ _ _ _ _ (c .before .before .before .before .before .in-use .ensures) (c .before .if1 .left) (c .if2 .left)
 

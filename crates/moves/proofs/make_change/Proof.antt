@@ -5,91 +5,65 @@ use Rattle.moves.proofs.Making.{none-made, refused-leaves}
 use borrow.Author.Needs.{needs}
 use Rattle.moves.proofs.make_change.Statement.{statement}
 use Rattle.moves.proofs.make_change.Tie as tie
-use Rattle.moves.proofs.make_change.Reads as reads
-use Rattle.moves.proofs.make_change.Lts as lts
-use Rattle.moves.proofs.make_apply.Reads as make-apply-reads
-use Rattle.moves.proofs.make_bind.Reads as make-bind-reads
-use Rattle.moves.proofs.make_enter.Reads as make-enter-reads
-use Rattle.moves.proofs.make_spawn.Reads as make-spawn-reads
-use Rattle.moves.proofs.refuse.Reads as refuse-reads
 
--- src/lib.rt:200:41
 enum-told : tie.Need-enum-told
 enum-told c = search needs
 
--- src/lib.rt:200:34
 refuse-requires : tie.Need-refuse-requires
 refuse-requires c κs = search needs
 
--- src/lib.rt:201:29
 enum-known-change : tie.Need-enum-known-change
 enum-known-change c = search needs
 
--- src/lib.rt:201:41
 make-bind-requires : tie.Need-make-bind-requires
 make-bind-requires c κs = search needs
 
--- src/lib.rt:202:30
 enum-known-change-2 : tie.Need-enum-known-change-2
 enum-known-change-2 c = search needs
 
--- src/lib.rt:202:48
 make-spawn-requires : tie.Need-make-spawn-requires
 make-spawn-requires c κs = search needs
 
--- src/lib.rt:203:30
 enum-known-change-3 : tie.Need-enum-known-change-3
 enum-known-change-3 c = search needs
 
--- src/lib.rt:203:49
 make-enter-requires : tie.Need-make-enter-requires
 make-enter-requires c κs = search needs
 
--- src/lib.rt:204:31
 enum-known-change-4 : tie.Need-enum-known-change-4
 enum-known-change-4 c = search needs
 
--- src/lib.rt:204:60
 make-apply-requires : tie.Need-make-apply-requires
 make-apply-requires c κs = search needs
 
--- src/lib.rt:193:1
 returns : tie.Need-returns
 unfolding aloneIn _>>=_
 returns c = rw (c .before .enum-told .given .1) (refused-leaves (c .refuse .ensures) (none-made _ _))
 
--- src/lib.rt:193:1
 same-length : tie.Need-same-length
 same-length c = search needs
 
--- src/lib.rt:193:1
 returns-2 : tie.Need-returns-2
 unfolding aloneIn _>>=_
 returns-2 c = rw (c .before .before .before .before .before .change .given .1) (c .before .before .make-bind .ensures)
 
--- src/lib.rt:193:1
 same-length-2 : tie.Need-same-length-2
 same-length-2 c = search needs
 
--- src/lib.rt:193:1
 returns-3 : tie.Need-returns-3
 unfolding aloneIn _>>=_
 returns-3 c = rw (c .before .before .before .before .before .change2 .given .1) (c .before .before .make-spawn .ensures)
 
--- src/lib.rt:193:1
 same-length-3 : tie.Need-same-length-3
 same-length-3 c = search needs
 
--- src/lib.rt:193:1
 returns-4 : tie.Need-returns-4
 unfolding aloneIn _>>=_
 returns-4 c = rw (c .before .before .before .before .before .change3 .given .1) (c .before .before .make-enter .ensures)
 
--- src/lib.rt:193:1
 same-length-4 : tie.Need-same-length-4
 same-length-4 c = search needs
 
--- src/lib.rt:193:1
 returns-5 : tie.Need-returns-5
 unfolding aloneIn _>>=_
 returns-5 c = rw (c .before .before .before .before .before .change4 .given .1) (c .before .before .make-apply .ensures)

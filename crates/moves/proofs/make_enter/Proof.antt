@@ -1,7 +1,6 @@
 -- `make_enter` meets its contract: where there is room, the cell and the frame are pushed and the record put.
 use native.Mathlib.Omega.{arith}
 use mathlib.Core.Path.{sym, _∙_, ap}
-use Rattle.run_memory.specs.declared.InUse.{InUse}
 use Rattle.thread_records.specs.declared.Records.{Records}
 use Rattle.format.specs.Text.{Bytes}
 use Rattle.run_memory.specs.RunMemory.{pushFrame}
@@ -10,52 +9,34 @@ use Rattle.moves.proofs.Making.{room-told, one-pushed, frame-ready, mad
 use borrow.Author.Needs.{needs}
 use Rattle.moves.proofs.make_enter.Statement.{statement}
 use Rattle.moves.proofs.make_enter.Tie as tie
-use Rattle.moves.proofs.make_enter.Reads as reads
-use Rattle.moves.proofs.make_enter.Lts as lts
-use Rattle.moves.proofs.accept.Reads as accept-reads
-use Rattle.moves.proofs.has_room.Reads as has-room-reads
-use Rattle.moves.proofs.refuse.Reads as refuse-reads
-use Rattle.run_memory.proofs.push_cell.Reads as push-cell-reads
-use Rattle.run_memory.proofs.push_frame.Reads as push-frame-reads
-use Rattle.thread_records.proofs.with_record.Reads as with-record-reads
 
--- src/lib.rt:133:8
 has-room-requires : tie.Need-has-room-requires
 has-room-requires c κs = search needs
 
--- src/lib.rt:134:9
 push-cell-requires : tie.Need-push-cell-requires
 push-cell-requires c κs = let r = room-told _ 1 1 0 (sym (c .before .before .has-room .ensures) ∙ c .before .if1 .taken) in (c .before .before .before .before .before .pre .0 .long, (let q = r .cells in omega (arith, q)))
 
--- src/lib.rt:135:9
 push-frame-requires : tie.Need-push-frame-requires
 push-frame-requires c κs = let r = room-told _ 1 1 0 (sym (c .before .before .before .before .before .before .has-room .ensures) ∙ c .before .before .before .before .before .if1 .taken) in frame-ready (one-pushed _ (c .before .before .before .before .before .before .before .before .before .pre .0 .long) _ (c .before .before .before .push-cell .ensures) (r .cells) (c .before .before .before .before .before .before .before .before .before .pre .1 .0 .frames)) (r .frames)
 
--- src/lib.rt:136:13
 with-record-requires : tie.Need-with-record-requires
 with-record-requires c κs = search needs
 
--- src/lib.rt:137:9
 accept-requires : tie.Need-accept-requires
 accept-requires c κs = search needs
 
--- src/lib.rt:137:9
 same-length : tie.Need-same-length
 same-length c = search needs
 
--- src/lib.rt:137:9
 returns : tie.Need-returns
 returns c = accepted-leaves (c .accept .ensures) (c .before .before .before .before .before .push-frame .ensures ∙ ap (λ (b : Bytes). pushFrame b (c .before .before .before .before .before .before .before .before .before .before .before .before .before .before .before .args .frame)) (c .before .before .before .before .before .before .before .before .before .push-cell .ensures)) (ap (λ (r : Records). r .list) (c .before .before .with-record .ensures)) (enter-made _ _ (c .before .before .before .before .before .before .before .before .before .before .before .before .before .before .before .pre .0) _ _ _ _ (sym (c .before .before .before .before .before .before .before .before .before .before .before .before .has-room .ensures) ∙ c .before .before .before .before .before .before .before .before .before .before .before .if1 .taken))
 
--- src/lib.rt:139:5
 refuse-requires : tie.Need-refuse-requires
 refuse-requires c κs = search needs
 
--- src/lib.rt:120:1
 same-length-2 : tie.Need-same-length-2
 same-length-2 c = search needs
 
--- src/lib.rt:120:1
 returns-2 : tie.Need-returns-2
 returns-2 c = refused-leaves (c .refuse .ensures) (made-refused _ _ (c .before .before .before .before .before .pre .0) _ (takes-one _ _) (sym (c .before .before .has-room .ensures) ∙ c .before .if1 .left))
 

@@ -6,37 +6,27 @@ use Rattle.packing.specs.Packing.{inBits, packed}
 use borrow.Author.Needs.{needs}
 use Rattle.packed_run.proofs.pack_run.Statement.{statement}
 use Rattle.packed_run.proofs.pack_run.Tie as tie
-use Rattle.packed_run.proofs.pack_run.Reads as reads
-use Rattle.packed_run.proofs.pack_run.Lts as lts
-use Rattle.packing.proofs.pack_refusal.Reads as pack-refusal-reads
 
--- src/lib.rt:35:28
 enum-known-answer : tie.Need-enum-known-answer
 enum-known-answer c = search needs
 
--- src/lib.rt:35:40
 pack-refusal-requires : tie.Need-pack-refusal-requires
 unfolding runAnswer refusalAnswer
 pack-refusal-requires c κs = rw (c .before .answer .given .1) at (c .before .before .before .pre)
 
--- src/lib.rt:36:28
 enum-known-answer-2 : tie.Need-enum-known-answer-2
 enum-known-answer-2 c = search needs
 
--- src/lib.rt:36:47
 cast-result : tie.Need-cast-result
 cast-result c = search needs
 
--- src/lib.rt:36:40
 mul-result : tie.Need-mul-result
 mul-result c = search needs
 
--- src/lib.rt:30:1
 returns : tie.Need-returns
 unfolding runAnswer refusalAnswer packed
 returns c = rw (c .before .before .answer .given .1) (c .pack-refusal .ensures)
 
--- src/lib.rt:30:1
 returns-2 : tie.Need-returns-2
 unfolding runAnswer packed inBits
 returns-2 c = rw (c .before .answer2 .given .1) (omega arith)

@@ -1,9 +1,8 @@
+-- In each arm the number computes.
 use Rattle.format.specs.Refusals.{number}
 use borrow.Author.Needs.{needs}
 use Rattle.refusal_numbers.proofs.number.Statement.{statement}
 use Rattle.refusal_numbers.proofs.number.Tie as tie
-use Rattle.refusal_numbers.proofs.number.Reads as reads
-use Rattle.refusal_numbers.proofs.number.Lts as lts
 
 enum-told : tie.Need-enum-told
 enum-told c = search needs

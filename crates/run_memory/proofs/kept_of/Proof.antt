@@ -1,26 +1,21 @@
+-- Each kind has its case; any other than 0, 1 and 2 is a closure.
 use borrow.Author.Tests.{ne-eqb}
 use Rattle.run_memory.specs.RunMemory.{keptOf}
 use Rattle.run_memory.proofs.kept_of.Statement.{statement}
 use Rattle.run_memory.proofs.kept_of.Tie as tie
-use Rattle.run_memory.proofs.kept_of.Reads as reads
-use Rattle.run_memory.proofs.kept_of.Lts as lts
 
--- src/lib.rt:83:1
 returns : tie.Need-returns
 unfolding keptOf
 returns c = rw (c .match .keys1)
 
--- src/lib.rt:83:1
 returns-2 : tie.Need-returns-2
 unfolding keptOf
 returns-2 c = rw (c .match .keys2)
 
--- src/lib.rt:83:1
 returns-3 : tie.Need-returns-3
 unfolding keptOf
 returns-3 c = rw (c .match .keys3)
 
--- src/lib.rt:83:1
 returns-4 : tie.Need-returns-4
 unfolding keptOf
 returns-4 c = let m = c .match .rest in simp (ne-eqb _ _ (m .0 .0 .1), ne-eqb _ _ (m .0 .1), ne-eqb _ _ (m .1))

@@ -1,3 +1,4 @@
+-- As many frames stand in memory as are counted.
 use native.Mathlib.Numerals.{towards-suc}
 use Prim.Native.Nat.{suc}
 use native.Mathlib.Omega.{arith}
@@ -7,19 +8,13 @@ use Rattle.run_memory.proofs.Codec.{frames-are}
 use borrow.Author.Needs.{needs}
 use Rattle.run_memory.proofs.next_frame.Statement.{statement}
 use Rattle.run_memory.proofs.next_frame.Tie as tie
-use Rattle.run_memory.proofs.next_frame.Reads as reads
-use Rattle.run_memory.proofs.next_frame.Lts as lts
-use Rattle.run_memory.proofs.in_use.Reads as in-use-reads
 
--- src/lib.rt:224:9
 in-use-requires : tie.Need-in-use-requires
 in-use-requires c κs = search needs
 
--- src/lib.rt:225:5
 add-result : tie.Need-add-result
 add-result c = let e = ap (λ (n : InUse). n .frames) (c .before .in-use .ensures) in omega (arith, c .before .before .before .pre .frames, e)
 
--- src/lib.rt:220:1
 returns : tie.Need-returns
 returns c = simp towards-suc (ap suc (ap (λ (n : InUse). n .frames) (c .before .in-use .ensures) ∙ sym (frames-are _)))
 

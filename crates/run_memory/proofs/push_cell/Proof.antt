@@ -1,3 +1,4 @@
+-- The slot is written, then the counts; the slot of the next cell lies inside, since fewer are in use than may be.
 use native.Mathlib.Numerals.{towards-suc}
 use native.Mathlib.Omega.{arith}
 use mathlib.Core.Path.{ap}
@@ -6,38 +7,25 @@ use Rattle.run_memory.specs.RunMemory.{pushCell}
 use borrow.Author.Needs.{needs}
 use Rattle.run_memory.proofs.push_cell.Statement.{statement}
 use Rattle.run_memory.proofs.push_cell.Tie as tie
-use Rattle.run_memory.proofs.push_cell.Reads as reads
-use Rattle.run_memory.proofs.push_cell.Lts as lts
-use Rattle.run_memory.proofs.in_use.Reads as in-use-reads
-use Rattle.run_memory.proofs.put_counts.Reads as put-counts-reads
-use Rattle.run_memory.proofs.put_slot.Reads as put-slot-reads
-use Rattle.run_memory.proofs.slot_of_cell.Reads as slot-of-cell-reads
 
--- src/lib.rt:200:9
 in-use-requires : tie.Need-in-use-requires
 in-use-requires c κs = search needs
 
--- src/lib.rt:201:17
 add-cells : tie.Need-add-cells
 add-cells c = let e = ap (λ (n : InUse). n .cells) (c .before .in-use .ensures) in omega (arith, c .before .before .before .before .pre .1, e)
 
--- src/lib.rt:202:26
 slot-of-cell-requires : tie.Need-slot-of-cell-requires
 slot-of-cell-requires c κs = search needs
 
--- src/lib.rt:202:5
 put-slot-requires : tie.Need-put-slot-requires
 put-slot-requires c κs = let e = ap (λ (n : InUse). n .cells) (c .before .before .before .in-use .ensures) in omega (arith, c .before .before .before .before .before .before .pre .0, c .before .before .before .before .before .before .pre .1, e)
 
--- src/lib.rt:203:5
 put-counts-requires : tie.Need-put-counts-requires
 put-counts-requires c κs = search needs
 
--- src/lib.rt:195:1
 same-length : tie.Need-same-length
 same-length c = search needs
 
--- src/lib.rt:195:1
 returns : tie.Need-returns
 unfolding pushCell
 returns c = rw (c .before .before .put-counts .ensures, c .before .before .before .before .before .before .put-slot .ensures, c .before .before .before .before .before .before .before .slot-of-cell .ensures, c .before .before .before .before .before .before .before .before .before .before .in-use .ensures) (simp towards-suc)

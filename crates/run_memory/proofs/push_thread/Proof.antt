@@ -1,3 +1,4 @@
+-- The counts are written, with one thread more.
 use native.Mathlib.Numerals.{towards-suc}
 use native.Mathlib.Omega.{arith}
 use mathlib.Core.Path.{ap}
@@ -6,28 +7,19 @@ use Rattle.run_memory.specs.RunMemory.{pushThread}
 use borrow.Author.Needs.{needs}
 use Rattle.run_memory.proofs.push_thread.Statement.{statement}
 use Rattle.run_memory.proofs.push_thread.Tie as tie
-use Rattle.run_memory.proofs.push_thread.Reads as reads
-use Rattle.run_memory.proofs.push_thread.Lts as lts
-use Rattle.run_memory.proofs.in_use.Reads as in-use-reads
-use Rattle.run_memory.proofs.put_counts.Reads as put-counts-reads
 
--- src/lib.rt:238:9
 in-use-requires : tie.Need-in-use-requires
 in-use-requires c κs = search needs
 
--- src/lib.rt:240:18
 add-t8 : tie.Need-add-t8
 add-t8 c = let e = ap (λ (n : InUse). n .threads) (c .before .before .in-use .ensures) in omega (arith, c .before .before .before .before .before .pre .1, e)
 
--- src/lib.rt:239:5
 put-counts-requires : tie.Need-put-counts-requires
 put-counts-requires c κs = search needs
 
--- src/lib.rt:233:1
 same-length : tie.Need-same-length
 same-length c = search needs
 
--- src/lib.rt:233:1
 returns : tie.Need-returns
 unfolding pushThread
 returns c = rw (c .before .before .put-counts .ensures, c .before .before .before .before .before .in-use .ensures) (simp towards-suc)

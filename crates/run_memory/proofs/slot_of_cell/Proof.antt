@@ -1,29 +1,22 @@
+-- A cell that makes a channel has kind 1; any other has the slot of its value.
 use Rattle.run_memory.specs.RunMemory.{slotOfCell}
 use borrow.Author.Needs.{needs}
 use Rattle.run_memory.proofs.slot_of_cell.Statement.{statement}
 use Rattle.run_memory.proofs.slot_of_cell.Tie as tie
-use Rattle.run_memory.proofs.slot_of_cell.Reads as reads
-use Rattle.run_memory.proofs.slot_of_cell.Lts as lts
-use Rattle.run_memory.proofs.slot_of_held.Reads as slot-of-held-reads
 
--- src/lib.rt:189:24
 enum-told : tie.Need-enum-told
 enum-told c = search needs
 
--- src/lib.rt:196:21
 enum-known-kept : tie.Need-enum-known-kept
 enum-known-kept c = search needs
 
--- src/lib.rt:196:30
 slot-of-held-requires : tie.Need-slot-of-held-requires
 slot-of-held-requires c κs = search needs
 
--- src/lib.rt:184:1
 returns : tie.Need-returns
 unfolding slotOfCell
 returns c = rw (c .enum-told .given .1)
 
--- src/lib.rt:184:1
 returns-2 : tie.Need-returns-2
 returns-2 c = rw (c .before .before .kept .given .1) (c .slot-of-held .ensures)
 

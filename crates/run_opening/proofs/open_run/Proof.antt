@@ -7,71 +7,49 @@ use Rattle.run_opening.proofs.RunOpening.{short-refused, not-begun-refu
 use borrow.Author.Needs.{needs}
 use Rattle.run_opening.proofs.open_run.Statement.{statement}
 use Rattle.run_opening.proofs.open_run.Tie as tie
-use Rattle.run_opening.proofs.open_run.Reads as reads
-use Rattle.run_opening.proofs.open_run.Lts as lts
-use Rattle.opening.proofs.open.Reads as open-reads
-use Rattle.run_memory.proofs.in_use.Reads as in-use-reads
-use Rattle.run_opening.proofs.refuse_lent.Reads as refuse-lent-reads
-use Rattle.run_opening.proofs.too_short.Reads as too-short-reads
-use Rattle.run_sound.proofs.sound_run.Reads as sound-run-reads
 
--- src/lib.rt:46:8
 too-short-requires : tie.Need-too-short-requires
 too-short-requires c κs = search needs
 
--- src/lib.rt:47:9
 refuse-lent-requires : tie.Need-refuse-lent-requires
 refuse-lent-requires c κs = search needs
 
--- src/lib.rt:47:9
 returns : tie.Need-returns
 returns c = rw (c .refuse-lent .ensures) (short-refused _ _ _ _ (sym (c .before .before .too-short .ensures) ∙ c .before .if1 .taken))
 
--- src/lib.rt:49:9
 in-use-requires : tie.Need-in-use-requires
 in-use-requires c κs = search needs
 
--- src/lib.rt:51:9
 refuse-lent-requires-2 : tie.Need-refuse-lent-requires-2
 refuse-lent-requires-2 c κs = search needs
 
--- src/lib.rt:51:9
 returns-2 : tie.Need-returns-2
 returns-2 c = rw (c .refuse-lent2 .ensures) (not-begun-refused _ _ _ _ (sym (c .before .before .before .before .before .too-short .ensures) ∙ c .before .before .before .before .if1 .left) _ (c .before .before .before .in-use .ensures) (c .before .if2 .taken))
 
--- src/lib.rt:53:11
 open-requires : tie.Need-open-requires
 open-requires c κs = search needs
 
--- src/lib.rt:54:25
 enum-known-refusal : tie.Need-enum-known-refusal
 enum-known-refusal c = search needs
 
--- src/lib.rt:55:22
 enum-known-rows : tie.Need-enum-known-rows
 enum-known-rows c = search needs
 
--- src/lib.rt:56:26
 slice-aggregate-sound-run : tie.Need-slice-aggregate-sound-run
 slice-aggregate-sound-run c = sym (fixed-size _ _ (rw (c .before .before .rows .given .1) at (c .before .before .before .before .«open» .ensures)))
 
--- src/lib.rt:56:16
 sound-run-requires : tie.Need-sound-run-requires
 sound-run-requires c κs = search needs
 
--- src/lib.rt:57:17
 returns-3 : tie.Need-returns-3
 returns-3 c = run-opens _ _ _ _ (sym (c .before .before .before .before .before .before .before .before .before .before .before .too-short .ensures) ∙ c .before .before .before .before .before .before .before .before .before .before .if1 .left) _ (c .before .before .before .before .before .before .before .before .before .in-use .ensures) (c .before .before .before .before .before .before .before .if2 .left) _ (rw (c .before .before .before .before .rows .given .1) at (c .before .before .before .before .before .before .«open» .ensures)) (sym (c .before .sound-run .ensures) ∙ c .if3 .taken) (let z = simp length-map at (c .before .before .before .before .before .before .before .before .before .before .before .before .before .before .good .1 .1 .0 .1 .1 .1 .0 .1 .0 .1) in omega (arith, z))
 
--- src/lib.rt:59:13
 refuse-lent-requires-3 : tie.Need-refuse-lent-requires-3
 refuse-lent-requires-3 c κs = search needs
 
--- src/lib.rt:42:1
 returns-4 : tie.Need-returns-4
 returns-4 c = store-refused _ _ _ _ (sym (c .before .before .before .before .before .before .before .before .too-short .ensures) ∙ c .before .before .before .before .before .before .before .if1 .left) _ (c .before .before .before .before .before .before .in-use .ensures) (c .before .before .before .before .if2 .left) _ (rw (c .before .refusal .given .1) at (c .before .before .before .«open» .ensures))
 
--- src/lib.rt:42:1
 returns-5 : tie.Need-returns-5
 returns-5 c = rw (c .refuse-lent3 .ensures) (run-refused _ _ _ _ (sym (c .before .before .before .before .before .before .before .before .before .before .before .before .too-short .ensures) ∙ c .before .before .before .before .before .before .before .before .before .before .before .if1 .left) _ (c .before .before .before .before .before .before .before .before .before .before .in-use .ensures) (c .before .before .before .before .before .before .before .before .if2 .left) _ (rw (c .before .before .before .before .before .rows .given .1) at (c .before .before .before .before .before .before .before .«open» .ensures)) (sym (c .before .before .sound-run .ensures) ∙ c .before .if3 .left))
 

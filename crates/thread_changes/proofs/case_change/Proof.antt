@@ -8,60 +8,43 @@ use Rattle.thread_changes.proofs.Rules.{either-none}
 use borrow.Author.Needs.{needs}
 use Rattle.thread_changes.proofs.case_change.Statement.{statement}
 use Rattle.thread_changes.proofs.case_change.Tie as tie
-use Rattle.thread_changes.proofs.case_change.Reads as reads
-use Rattle.thread_changes.proofs.case_change.Lts as lts
-use Rattle.forms.proofs.form_at.Reads as form-at-reads
-use Rattle.lookups.proofs.find_closure.Reads as find-closure-reads
-use Rattle.thread_changes.proofs.enter.Reads as enter-reads
 
--- src/lib.rt:197:39
 find-closure-requires : tie.Need-find-closure-requires
 find-closure-requires c κs = search needs
 
--- src/lib.rt:197:31
 enum-known-r : tie.Need-enum-known-r
 enum-known-r c = search needs
 
--- src/lib.rt:198:9
 enum-told : tie.Need-enum-told
 enum-told c = search needs
 
--- src/lib.rt:198:9
 returns : tie.Need-returns
 unfolding formChange _>>=_
 returns c = rw (← c .before .before .find-closure .ensures, c .enum-told .given .1)
 
--- src/lib.rt:200:9
 form-at-requires : tie.Need-form-at-requires
 form-at-requires c κs = search needs
 
--- src/lib.rt:201:25
 enum-known-form : tie.Need-enum-known-form
 enum-known-form c = search needs
 
--- src/lib.rt:202:9
 enter-requires : tie.Need-enter-requires
 enter-requires c κs = search needs
 
--- src/lib.rt:202:9
 returns-2 : tie.Need-returns-2
 unfolding formChange entersWith _>>=_
 returns-2 c = rw (← c .before .before .before .before .before .before .before .before .find-closure .ensures, c .before .before .before .before .before .before .r .given .1, left-at _ _ (c .before .before .before .before .form-at .ensures), right-at _ _ (c .before .before .before .before .form-at .ensures), c .before .before .form .given .1) (c .enter .ensures ∙ sym (either-none _))
 
--- src/lib.rt:204:23
 enum-known-form-2 : tie.Need-enum-known-form-2
 enum-known-form-2 c = search needs
 
--- src/lib.rt:205:9
 returns-3 : tie.Need-returns-3
 unfolding formChange _>>=_ _<|>_
 returns-3 c = rw (← c .before .before .before .before .before .before .find-closure .ensures, c .before .before .before .before .r .given .1, left-at _ _ (c .before .before .form-at .ensures), right-at _ _ (c .before .before .form-at .ensures), no-left (but 5 kinds) _ tt (c .before .match2 .keys2), no-right (but 6 kinds) _ tt (c .match3 .keys2))
 
--- src/lib.rt:207:5
 enter-requires-2 : tie.Need-enter-requires-2
 enter-requires-2 c κs = search needs
 
--- src/lib.rt:182:1
 returns-4 : tie.Need-returns-4
 unfolding formChange entersWith _>>=_ _<|>_
 returns-4 c = rw (← c .before .before .before .before .before .before .before .before .before .find-closure .ensures, c .before .before .before .before .before .before .before .r .given .1, left-at _ _ (c .before .before .before .before .before .form-at .ensures), right-at _ _ (c .before .before .before .before .before .form-at .ensures), c .before .before .form2 .given .1) (c .enter2 .ensures)

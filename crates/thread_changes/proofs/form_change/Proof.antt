@@ -5,190 +5,140 @@ use Rattle.thread_changes.proofs.Rules.{by-form}
 use borrow.Author.Needs.{needs}
 use Rattle.thread_changes.proofs.form_change.Statement.{statement}
 use Rattle.thread_changes.proofs.form_change.Tie as tie
-use Rattle.thread_changes.proofs.form_change.Reads as reads
-use Rattle.thread_changes.proofs.form_change.Lts as lts
-use Rattle.thread_changes.proofs.apply_change.Reads as apply-change-reads
-use Rattle.thread_changes.proofs.case_change.Reads as case-change-reads
-use Rattle.thread_changes.proofs.first_change.Reads as first-change-reads
-use Rattle.thread_changes.proofs.fork.Reads as fork-reads
-use Rattle.thread_changes.proofs.go_on.Reads as go-on-reads
-use Rattle.thread_changes.proofs.second_change.Reads as second-change-reads
-use Rattle.thread_changes.proofs.value_change.Reads as value-change-reads
 
--- src/lib.rt:273:52
 enum-told : tie.Need-enum-told
 enum-told c = search needs
 
--- src/lib.rt:273:23
 go-on-requires : tie.Need-go-on-requires
 go-on-requires c κs = search needs
 
--- src/lib.rt:274:40
 enum-told-2 : tie.Need-enum-told-2
 enum-told-2 c = search needs
 
--- src/lib.rt:274:23
 go-on-requires-2 : tie.Need-go-on-requires-2
 go-on-requires-2 c κs = search needs
 
--- src/lib.rt:275:30
 enum-told-3 : tie.Need-enum-told-3
 enum-told-3 c = search needs
 
--- src/lib.rt:275:30
 value-change-requires : tie.Need-value-change-requires
 value-change-requires c κs = search needs
 
--- src/lib.rt:276:30
 enum-told-4 : tie.Need-enum-told-4
 enum-told-4 c = search needs
 
--- src/lib.rt:276:30
 value-change-requires-2 : tie.Need-value-change-requires-2
 value-change-requires-2 c κs = search needs
 
--- src/lib.rt:277:30
 enum-told-5 : tie.Need-enum-told-5
 enum-told-5 c = search needs
 
--- src/lib.rt:277:30
 value-change-requires-3 : tie.Need-value-change-requires-3
 value-change-requires-3 c κs = search needs
 
--- src/lib.rt:278:30
 enum-told-6 : tie.Need-enum-told-6
 enum-told-6 c = search needs
 
--- src/lib.rt:278:30
 value-change-requires-4 : tie.Need-value-change-requires-4
 value-change-requires-4 c κs = search needs
 
--- src/lib.rt:279:31
 enum-told-7 : tie.Need-enum-told-7
 enum-told-7 c = search needs
 
--- src/lib.rt:279:31
 value-change-requires-5 : tie.Need-value-change-requires-5
 value-change-requires-5 c κs = search needs
 
--- src/lib.rt:280:29
 enum-told-8 : tie.Need-enum-told-8
 enum-told-8 c = search needs
 
--- src/lib.rt:280:29
 value-change-requires-6 : tie.Need-value-change-requires-6
 value-change-requires-6 c κs = search needs
 
--- src/lib.rt:281:23
 enum-known-form : tie.Need-enum-known-form
 enum-known-form c = search needs
 
--- src/lib.rt:281:34
 fork-requires : tie.Need-fork-requires
 fork-requires c κs = search needs
 
--- src/lib.rt:282:30
 enum-told-9 : tie.Need-enum-told-9
 enum-told-9 c = search needs
 
--- src/lib.rt:283:23
 enum-known-form-2 : tie.Need-enum-known-form-2
 enum-known-form-2 c = search needs
 
--- src/lib.rt:283:33
 first-change-requires : tie.Need-first-change-requires
 first-change-requires c κs = search needs
 
--- src/lib.rt:284:24
 enum-known-form-3 : tie.Need-enum-known-form-3
 enum-known-form-3 c = search needs
 
--- src/lib.rt:284:34
 second-change-requires : tie.Need-second-change-requires
 second-change-requires c κs = search needs
 
--- src/lib.rt:286:13
 enum-known-form-4 : tie.Need-enum-known-form-4
 enum-known-form-4 c = search needs
 
--- src/lib.rt:291:14
 case-change-requires : tie.Need-case-change-requires
 case-change-requires c κs = search needs
 
--- src/lib.rt:303:23
 enum-known-form-5 : tie.Need-enum-known-form-5
 enum-known-form-5 c = search needs
 
--- src/lib.rt:303:47
 apply-change-requires : tie.Need-apply-change-requires
 apply-change-requires c κs = search needs
 
--- src/lib.rt:267:1
 returns : tie.Need-returns
 unfolding formChange
 returns c = by-form _ _ _ _ (c .before .enum-told .given .1) (c .go-on .ensures)
 
--- src/lib.rt:267:1
 returns-2 : tie.Need-returns-2
 unfolding formChange
 returns-2 c = by-form _ _ _ _ (c .before .enum-told2 .given .1) (c .go-on2 .ensures)
 
--- src/lib.rt:267:1
 returns-3 : tie.Need-returns-3
 unfolding formChange
 returns-3 c = by-form _ _ _ _ (c .before .enum-told3 .given .1) (c .value-change .ensures)
 
--- src/lib.rt:267:1
 returns-4 : tie.Need-returns-4
 unfolding formChange
 returns-4 c = by-form _ _ _ _ (c .before .enum-told4 .given .1) (c .value-change2 .ensures)
 
--- src/lib.rt:267:1
 returns-5 : tie.Need-returns-5
 unfolding formChange
 returns-5 c = by-form _ _ _ _ (c .before .enum-told5 .given .1) (c .value-change3 .ensures)
 
--- src/lib.rt:267:1
 returns-6 : tie.Need-returns-6
 unfolding formChange
 returns-6 c = by-form _ _ _ _ (c .before .enum-told6 .given .1) (c .value-change4 .ensures)
 
--- src/lib.rt:267:1
 returns-7 : tie.Need-returns-7
 unfolding formChange
 returns-7 c = by-form _ _ _ _ (c .before .enum-told7 .given .1) (c .value-change5 .ensures)
 
--- src/lib.rt:267:1
 returns-8 : tie.Need-returns-8
 unfolding formChange
 returns-8 c = by-form _ _ _ _ (c .before .enum-told8 .given .1) (c .value-change6 .ensures)
 
--- src/lib.rt:267:1
 returns-9 : tie.Need-returns-9
 unfolding formChange
 returns-9 c = by-form _ _ _ _ (c .before .before .form .given .1) (c .fork .ensures)
 
--- src/lib.rt:267:1
 returns-10 : tie.Need-returns-10
 unfolding formChange
 returns-10 c = by-form _ _ _ _ (c .enum-told9 .given .1) refl
 
--- src/lib.rt:267:1
 returns-11 : tie.Need-returns-11
 unfolding formChange
 returns-11 c = by-form _ _ _ _ (c .before .before .form2 .given .1) (c .first-change .ensures)
 
--- src/lib.rt:267:1
 returns-12 : tie.Need-returns-12
 unfolding formChange
 returns-12 c = by-form _ _ _ _ (c .before .before .form3 .given .1) (c .second-change .ensures)
 
--- src/lib.rt:267:1
 returns-13 : tie.Need-returns-13
 unfolding formChange
 returns-13 c = by-form _ _ _ _ (c .before .before .form4 .given .1) (c .case-change .ensures)
 
--- src/lib.rt:267:1
 returns-14 : tie.Need-returns-14
 unfolding formChange
 returns-14 c = by-form _ _ _ _ (c .before .before .form5 .given .1) (c .apply-change .ensures)

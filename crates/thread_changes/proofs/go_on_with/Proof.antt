@@ -4,33 +4,23 @@ use Rattle.thread_changes.specs.Changes.{goesOnWith}
 use borrow.Author.Needs.{needs}
 use Rattle.thread_changes.proofs.go_on_with.Statement.{statement}
 use Rattle.thread_changes.proofs.go_on_with.Tie as tie
-use Rattle.thread_changes.proofs.go_on_with.Reads as reads
-use Rattle.thread_changes.proofs.go_on_with.Lts as lts
-use Rattle.lookups.proofs.find.Reads as find-reads
-use Rattle.thread_changes.proofs.go_on.Reads as go-on-reads
 
--- src/lib.rt:133:30
 find-requires : tie.Need-find-requires
 find-requires c κs = search needs
 
--- src/lib.rt:133:22
 enum-known-held : tie.Need-enum-known-held
 enum-known-held c = search needs
 
--- src/lib.rt:134:9
 enum-told : tie.Need-enum-told
 enum-told c = search needs
 
--- src/lib.rt:134:9
 returns : tie.Need-returns
 unfolding goesOnWith _>>=_
 returns c = rw (← c .before .before .find .ensures, c .enum-told .given .1)
 
--- src/lib.rt:136:5
 go-on-requires : tie.Need-go-on-requires
 go-on-requires c κs = search needs
 
--- src/lib.rt:129:1
 returns-2 : tie.Need-returns-2
 unfolding goesOnWith _>>=_
 returns-2 c = rw (← c .before .before .before .before .find .ensures, c .before .before .held .given .1) (c .go-on .ensures)

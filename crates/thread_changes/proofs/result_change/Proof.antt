@@ -8,55 +8,39 @@ use Rattle.thread_changes.proofs.Rules.{newest-next}
 use borrow.Author.Needs.{needs}
 use Rattle.thread_changes.proofs.result_change.Statement.{statement}
 use Rattle.thread_changes.proofs.result_change.Tie as tie
-use Rattle.thread_changes.proofs.result_change.Reads as reads
-use Rattle.thread_changes.proofs.result_change.Lts as lts
-use Rattle.lookups.proofs.find.Reads as find-reads
-use Rattle.lookups.proofs.find_frame.Reads as find-frame-reads
-use Rattle.run_memory.proofs.in_use.Reads as in-use-reads
 
--- src/lib.rt:320:36
 find-frame-requires : tie.Need-find-frame-requires
 find-frame-requires c κs = search needs
 
--- src/lib.rt:320:27
 enum-known-frame : tie.Need-enum-known-frame
 enum-known-frame c = search needs
 
--- src/lib.rt:321:9
 enum-told : tie.Need-enum-told
 enum-told c = search needs
 
--- src/lib.rt:321:9
 returns : tie.Need-returns
 unfolding resultChange _>>=_
 returns c = rw (← c .before .before .find-frame .ensures, c .enum-told .given .1)
 
--- src/lib.rt:323:30
 find-requires : tie.Need-find-requires
 find-requires c κs = search needs
 
--- src/lib.rt:323:22
 enum-known-held : tie.Need-enum-known-held
 enum-known-held c = search needs
 
--- src/lib.rt:324:9
 enum-told-2 : tie.Need-enum-told-2
 enum-told-2 c = search needs
 
--- src/lib.rt:324:9
 returns-2 : tie.Need-returns-2
 unfolding resultChange _>>=_
 returns-2 c = rw (← c .before .before .before .before .before .before .find-frame .ensures, c .before .before .before .before .frame .given .1, ← c .before .before .find .ensures, c .enum-told2 .given .1)
 
--- src/lib.rt:326:9
 in-use-requires : tie.Need-in-use-requires
 in-use-requires c κs = search needs
 
--- src/lib.rt:327:18
 add-newest : tie.Need-add-newest
 add-newest c = let e = ap (λ (n : InUse). n .cells) (c .before .in-use .ensures) in omega (arith, c .before .before .before .before .before .before .before .before .before .before .before .pre .cells, e)
 
--- src/lib.rt:316:1
 returns-3 : tie.Need-returns-3
 unfolding resultChange _>>=_
 returns-3 c = rw (← c .before .before .before .before .before .before .before .before .before .find-frame .ensures, c .before .before .before .before .before .before .before .frame .given .1, ← c .before .before .before .before .before .find .ensures, c .before .before .before .held .given .1, ← newest-next _ _ (c .before .in-use .ensures))
