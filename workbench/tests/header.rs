@@ -92,7 +92,7 @@ fn a_caller_in_c_runs_listing_a_to_the_end() {
     assert_eq!(status, Some(0));
     assert_eq!(
         text,
-        "0\n0\n0\n1\n0\n0:1\nthread 0 at row 8\nthread 1 at row 5\n"
+        "0\n0\n0\n1\n0\n0+1\nthread 0 at row 8\nthread 1 at row 5\n"
     );
     // Calls and returns; then unit is no pair.
     let (status, text) = printed(UNPACKING);

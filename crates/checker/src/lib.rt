@@ -2,5 +2,8 @@
 pub use call_infer::infer;
 pub use call_judge::judge;
 pub use call_load::load;
+pub use call_run::begin_run;
+pub use call_run::meet_threads;
+pub use call_run::move_thread;
 pub use call_verdict::verdict;
 pub use call_write::write;

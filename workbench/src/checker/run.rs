@@ -14,12 +14,12 @@ pub enum Move {
     Meeting { sender: usize, receiver: usize },
 }
 
-/// A thread's number, or the sender's and the receiver's: `0`, `0:1`.
+/// A thread's number, or the sender's and the receiver's: `0`, `0+1`.
 impl fmt::Display for Move {
     fn fmt(&self, f: &mut fmt::Formatter<'_>) -> fmt::Result {
         match self {
             Move::Alone(thread) => write!(f, "{thread}"),
-            Move::Meeting { sender, receiver } => write!(f, "{sender}:{receiver}"),
+            Move::Meeting { sender, receiver } => write!(f, "{sender}+{receiver}"),
         }
     }
 }
@@ -32,13 +32,13 @@ impl FromStr for Move {
             let digits = !text.is_empty() && text.bytes().all(|byte| byte.is_ascii_digit());
             digits.then(|| text.parse().ok()).flatten()
         };
-        let read = match text.split_once(':') {
+        let read = match text.split_once('+') {
             None => number(text).map(Move::Alone),
             Some((sender, receiver)) => number(sender)
                 .zip(number(receiver))
                 .map(|(sender, receiver)| Move::Meeting { sender, receiver }),
         };
-        read.ok_or_else(|| format!("`{text}` is no move: it is a thread, or SENDER:RECEIVER"))
+        read.ok_or_else(|| format!("`{text}` is no move: it is THREAD or SENDER+RECEIVER"))
     }
 }
 
@@ -113,10 +113,10 @@ mod tests {
 
     #[test]
     fn moves_are_read_as_they_are_written() {
-        for text in ["0", "63", "0:1", "12:7"] {
+        for text in ["0", "63", "0+1", "12+7"] {
             assert_eq!(text.parse::<Move>().unwrap().to_string(), text);
         }
-        for text in ["", ":", "1:", ":1", "1:2:3", "+1", "-1", "a", "1 2", " 1"] {
+        for text in ["", "+", "1+", "+1", "1+2+3", "1:2", "-1", "a", "1 2", " 1"] {
             assert!(text.parse::<Move>().is_err(), "{text}");
         }
     }

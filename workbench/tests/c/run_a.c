@@ -1,6 +1,6 @@
 /* Loads the file that is standard input and runs its program to the end: in each
  * round every thread moves, if it can, and every two threads meet that can. Prints
- * each move that is accepted, a thread or SENDER:RECEIVER, and in the end the row
+ * each move that is accepted, a thread or SENDER+RECEIVER, and in the end the row
  * of each thread. */
 #include <stdio.h>
 #include <stdlib.h>
@@ -47,7 +47,7 @@ int main(void) {
                 answer = dispenser_meet(store, store_size, run, run_size,
                                         threads, DISPENSER_THREADS, one, other);
                 if (number(answer) == 0) {
-                    printf("%zu:%zu\n", one, other);
+                    printf("%zu+%zu\n", one, other);
                     moved = 1;
                 }
             }

@@ -24,7 +24,7 @@
 //! with its `number` and `reason`.
 
 use super::going::{Going, Message};
-use super::moves::{move_text, moves_text};
+use super::moves::moves_text;
 use super::reading::{Channel, End};
 use super::text;
 use super::view::{Can, Seen, View};
@@ -77,13 +77,13 @@ pub fn state(going: &mut Going, event: Event) -> String {
         (Event::Undone(undone), _) => vec![
             ("event", string("undone")),
             ("number", (number + 1).to_string()),
-            ("move", string(&move_text(undone))),
+            ("move", string(&undone.to_string())),
         ],
         (Event::Made, None) => vec![("event", string("move"))],
         (Event::Made, Some(made)) => vec![
             ("event", string("move")),
             ("number", number.to_string()),
-            ("move", string(&move_text(made.made))),
+            ("move", string(&made.made.to_string())),
             ("from", numbers(&made.from)),
             ("born", made.born.map_or_else(null, |born| born.to_string())),
             ("message", made.message.as_ref().map_or_else(null, message)),
@@ -96,7 +96,7 @@ pub fn state(going: &mut Going, event: Event) -> String {
     });
     fields.push(("threads", array(threads)));
     fields.push(("channels", channels(&view)));
-    let moves = view.moves.iter().map(|(made, _)| string(&move_text(*made)));
+    let moves = view.moves.iter().map(|(made, _)| string(&made.to_string()));
     fields.push(("moves", array(moves)));
     object(fields) + "\n"
 }
@@ -148,7 +148,7 @@ pub fn end(going: &mut Going, refused: Option<Refused>) -> String {
     let view = going.view();
     let refused = refused.map(|(made, refusal)| {
         object(vec![
-            ("move", string(&move_text(made))),
+            ("move", string(&made.to_string())),
             ("number", refusal.reason.number().to_string()),
             ("reason", string(&refusal.reason.to_string())),
         ])

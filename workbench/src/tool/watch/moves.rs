@@ -2,17 +2,12 @@
 
 use crate::checker::Move;
 
-/// A move: the thread, or the sender and the receiver.
-pub fn move_text(made: Move) -> String {
-    match made {
-        Move::Alone(thread) => thread.to_string(),
-        Move::Meeting { sender, receiver } => format!("{sender}+{receiver}"),
-    }
-}
-
 /// A list of moves.
 pub fn moves_text(moves: impl Iterator<Item = Move>) -> String {
-    moves.map(move_text).collect::<Vec<_>>().join(",")
+    moves
+        .map(|made| made.to_string())
+        .collect::<Vec<_>>()
+        .join(",")
 }
 
 /// The moves of a list, or what is wrong with it. No moves are an empty list.
@@ -20,12 +15,7 @@ pub fn read_moves(text: &str) -> Result<Vec<Move>, String> {
     if text.trim().is_empty() {
         return Ok(vec![]);
     }
-    let read = |word: &str| {
-        let word = word.trim();
-        let made = word.replacen('+', ":", 1).parse();
-        made.map_err(|_| format!("`{word}` is no move: it is THREAD or SENDER+RECEIVER"))
-    };
-    text.split(',').map(read).collect()
+    text.split(',').map(|word| word.trim().parse()).collect()
 }
 
 #[cfg(test)]

@@ -29,7 +29,7 @@ text{font-family:sans-serif;font-size:11px;fill:#222}\
 .title{font-size:14px;font-weight:bold}\
 .number{font-weight:bold;text-anchor:middle}\
 .left{text-anchor:middle;fill:#555}\
-.on{text-anchor:middle;stroke:#fff;stroke-width:4px;paint-order:stroke}\
+.on{text-anchor:middle;stroke:#fff;stroke-width:3px;paint-order:stroke}\
 .lane{stroke:#bbb;stroke-width:2}\
 .birth{stroke:#2a7;stroke-width:2;fill:none}\
 .message{stroke:#36c;stroke-width:1.5}\
@@ -174,7 +174,7 @@ fn arrow(number: usize, message: &Message, y: usize) -> String {
          y2=\"{y}\" marker-end=\"url(#head)\"/>\
          <text class=\"on\" x=\"{middle}\" y=\"{}\">{on}</text></g>\n",
         escaped(&told),
-        y - 4
+        y - 5
     )
 }
 

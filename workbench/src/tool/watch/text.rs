@@ -1,7 +1,7 @@
 //! A run as plain text for people.
 
 use super::going::{Going, Made, Program};
-use super::moves::{move_text, moves_text};
+use super::moves::moves_text;
 use super::reading::{Channel, End};
 use super::view::{Can, View};
 use super::Refused;
@@ -143,14 +143,14 @@ fn made_words(made: &Made) -> String {
             let (sender, receiver) = (message.sender, message.receiver);
             format!("thread {sender} to thread {receiver} on {on}: {value}")
         }
-        (made, None) => move_text(made),
+        (made, None) => made.to_string(),
     }
 }
 
 /// A move that was refused.
 pub fn refused(going: &Going, (made, refusal): Refused) -> String {
     let number = going.made.len() + 1;
-    let made = move_text(made);
+    let made = made.to_string();
     let (reason, refused) = (refusal.reason, refusal.reason.number());
     format!("move {number}, {made}: refused {refused}: {reason}\n")
 }
