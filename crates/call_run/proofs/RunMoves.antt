@@ -6,7 +6,6 @@ use mathlib.Core.List.{List, [], _∷_}
 use mathlib.Core.Option.{Option, none, some}
 use mathlib.Core.Path.{_≡_, refl, sym, _∙_, ap, subst}
 use lib.ListN.{length, getD, take}
-use borrow.Author.Tests.{le-ltb}
 use Rattle.program.specs.Maybe.{_>>=_}
 use Rattle.program.specs.Program.{Program}
 use Rattle.format.specs.declared.Refusal.{Refusal}
@@ -24,7 +23,7 @@ use Rattle.machine.specs.Machine.{Change, threadAt, change, meeting, Order, alo
 use Rattle.run_memory.specs.RunMemory.{inUse, memoryIn, machineIn}
 use Rattle.run_calls.specs.declared.RunAnswer.{RunAnswer}
 use Rattle.run_calls.specs.RunCalls.{LeavesRun, tooShort, storeOpened, runOpened, begunIn, beginWith, beginOn, made, moveWith, moveOn}
-use Rattle.run_calls.proofs.Opened.{long-told}
+use Rattle.run_calls.proofs.Opened.{long-opened, long-told}
 use Rattle.thread_records.specs.Records.{noRecord}
 use Rattle.thread_changes.specs.declared.ThreadChange.{ThreadChange}
 use Rattle.thread_changes.specs.Changes.{changeIn}
@@ -118,8 +117,8 @@ module _ (store run : Bytes) (lent : ℕ) (ts : List ThreadRecord) where
 
   module _ (long : tooShort store run lent ≡ false) where
     opens : storeOpened store run lent ≡ opened store
-    unfolding storeOpened opened
-    opens = rw (long, le-ltb (length store) storeSize (long-told store run lent long .store-long), opened)
+    unfolding storeOpened
+    opens = rw (long, long-opened store (long-told store run lent long .store-long))
 
     pub begin-refused : (r : Refusal) → OpenedIs (opened store) (take storeSize store) (Opened.Refused r) → LeavesRun (beginOn store run lent ts) (RunAnswer.Refused r) run ts
     unfolding beginOn beginWith

@@ -2,8 +2,8 @@
 use Prim.Native.Nat.{ℕ, _≤_, _<_}
 use native.Mathlib.Omega.{arith}
 use native.Mathlib.Decide.{decLt}
-use mathlib.Core.Bool.{Bool, true, false, _||_}
-use mathlib.Core.Path.{_≡_, refl, sym, _∙_, ap, subst}
+use mathlib.Core.Bool.{true, _||_, or-true}
+use mathlib.Core.Path.{_≡_, sym, _∙_, ap, subst}
 use mathlib.Core.List.{_++_}
 use lib.ListN.{length, take, drop}
 use lib.Dec.{ltb}
@@ -19,10 +19,6 @@ use Rattle.thread_records.specs.declared.Records.{Records}
 use Rattle.thread_records.specs.Records.{recordsIn, putRecords}
 use Rattle.lent_runs.proofs.Copies.{Threads, records-are, put-is, put-few}
 use Rattle.lent_runs.proofs.Lent.{Front, move-front, begin-front}
-
-or-true : (a : Bool) → a || true ≡ true
-or-true true = refl
-or-true false = refl
 
 -- a call that looks at the first records alone, and refuses too few
 pub record Narrow (run : Bytes) (call : ℕ → Threads → RunOutcome) : Type 0 where

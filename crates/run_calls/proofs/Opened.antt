@@ -6,14 +6,15 @@ use mathlib.Core.List.{List}
 use mathlib.Core.Path.{_≡_, refl, sym, _∙_, ap}
 use lib.ListN.{length, take}
 use lib.Dec.{leb}
-use borrow.Author.Tests.{ltb-false, leb-true, not-false}
+use borrow.Author.Tests.{le-ltb, ltb-false, leb-true, not-false}
 use Rattle.program.specs.Program.{Program}
 use Rattle.program.specs.Test.{pick}
 use Rattle.program.proofs.Test.{and-left, and-right}
 use Rattle.format.specs.declared.Refusal.{Refusal}
 use Rattle.format.specs.Refusals.{Result, refused, accepted}
 use Rattle.format.specs.Text.{Bytes}
-use Rattle.calls.specs.Calls.{isEmpty, unsound}
+use Rattle.format.specs.Document.{Document}
+use Rattle.calls.specs.Calls.{isEmpty, unsound, openedFixed, opened}
 use Rattle.calls.specs.Layout.{storeSize, decode}
 use Rattle.machine.specs.declared.ThreadRecord.{ThreadRecord}
 use Rattle.machine.specs.Machine.{sound, cellLimit, frameLimit, threadLimit}
@@ -29,6 +30,23 @@ or-false false b e = (refl, e)
 pub passes : {A : Type 0} (b : Bool) (r : Refusal) (x : Result A) {a : A} → pick b (refused r) x ≡ accepted a → (b ≡ false) × (x ≡ accepted a)
 passes true r x e = let z : _≡_ {A = ℕ} 0 1 = cc in absurd (omega arith)
 passes false r x e = (refl, e)
+
+accepted-same : {A : Type 0} {a b : A} → accepted a ≡ accepted b → a ≡ b
+accepted-same e = cc
+
+-- a store that opens: what its tests told
+pub fixed-told : (fixed : Bytes) (d : Document) → openedFixed fixed ≡ accepted d → (isEmpty fixed ≡ false) × (unsound fixed ≡ false) × (decode fixed ≡ d)
+unfolding openedFixed
+fixed-told fixed d e = go (isEmpty fixed) (unsound fixed) refl refl
+  where
+    go : (a b : Bool) → isEmpty fixed ≡ a → unsound fixed ≡ b → (isEmpty fixed ≡ false) × (unsound fixed ≡ false) × (decode fixed ≡ d)
+    go true b p q = let f = rw (p, openedFixed) at e in let z : _≡_ {A = ℕ} 0 1 = cc in absurd (omega arith)
+    go false true p q = let f = rw (p, q, openedFixed) at e in let z : _≡_ {A = ℕ} 0 1 = cc in absurd (omega arith)
+    go false false p q = let f = rw (p, q, openedFixed) at e in (p, q, accepted-same f)
+
+pub long-opened : (store : Bytes) → storeSize ≤ length store → opened store ≡ openedFixed (take storeSize store)
+unfolding opened
+long-opened store l = rw (le-ltb (length store) storeSize l, opened)
 
 -- everything that is lent is long enough
 pub record LongEnough (store run : Bytes) (lent : ℕ) : Type 0 where
@@ -65,9 +83,6 @@ pub record RunIs (store run : Bytes) (lent : ℕ) (ts : List ThreadRecord) (p : 
   pub program-is : p ≡ decode (take storeSize store) .rows
   pub counts-within : So (withinLimits (inUse run))
   pub sound-run : So (sound p (machineIn run ts))
-
-accepted-same : {A : Type 0} {a b : A} → accepted a ≡ accepted b → a ≡ b
-accepted-same e = cc
 
 module _ (store run : Bytes) (lent : ℕ) (ts : List ThreadRecord) (p : Program) where
   pub opened-told : runOpened store run lent ts ≡ accepted p → RunIs store run lent ts p

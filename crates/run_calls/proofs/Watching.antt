@@ -19,7 +19,7 @@ use Rattle.format.specs.Text.{Bytes}
 use Rattle.format.specs.Document.{Document}
 use Rattle.format.specs.declared.Reason.the-variants.{LimitExceeded}
 use Rattle.calls.specs.Answers.{turnedBack, answered, refusalAnswer}
-use Rattle.calls.specs.Calls.{isEmpty, unsound, openedFixed, opened}
+use Rattle.calls.specs.Calls.{isEmpty, unsound, openedFixed}
 use Rattle.calls.specs.Exact.{StoreHolds}
 use Rattle.calls.specs.Layout.{storeSize, decode}
 use Rattle.calls.proofs.Exact.{holds-well, opened-iff}
@@ -35,6 +35,7 @@ use Rattle.run_memory.proofs.Codec.{begun, counted-in-use, length-counted}
 use Rattle.run_calls.specs.declared.RunAnswer.{RunAnswer}
 use Rattle.run_calls.specs.RunCalls.{runAnswer, RunOutcome, Lends, tooShort, notBegun, storeOpened, runOpened, begunIn, beginWith, beginOn, begin, turnedAway, bytesAll, threadsAll, made, moveWith, moveOn}
 use Rattle.run_calls.specs.Watching.{Lent, lentOf, leaves, moveIn, played, orders, RowsAre, AllRows, answerIn, WatchedRun}
+use Rattle.run_calls.proofs.Opened.{fixed-told, long-opened}
 use Rattle.run_calls.proofs.Left.{Uses, uses-in, Within, within-told, left-all}
 
 -- ---- a store that opens
@@ -43,22 +44,6 @@ record StoreOpens (store : Bytes) (d : Document) : Type 0 where
   filled : isEmpty (take storeSize store) ≡ false
   is-sound : unsound (take storeSize store) ≡ false
   document : decode (take storeSize store) ≡ d
-
-same-accepted : {A : Type 0} {a b : A} → accepted a ≡ accepted b → a ≡ b
-same-accepted e = cc
-
-fixed-told : (fixed : Bytes) (d : Document) → openedFixed fixed ≡ accepted d → (isEmpty fixed ≡ false) × (unsound fixed ≡ false) × (decode fixed ≡ d)
-unfolding openedFixed
-fixed-told fixed d e = go (isEmpty fixed) (unsound fixed) refl refl
-  where
-    go : (a b : Bool) → isEmpty fixed ≡ a → unsound fixed ≡ b → (isEmpty fixed ≡ false) × (unsound fixed ≡ false) × (decode fixed ≡ d)
-    go true b p q = let f = rw (p, openedFixed) at e in let z : _≡_ {A = ℕ} 0 1 = cc in absurd (omega arith)
-    go false true p q = let f = rw (p, q, openedFixed) at e in let z : _≡_ {A = ℕ} 0 1 = cc in absurd (omega arith)
-    go false false p q = let f = rw (p, q, openedFixed) at e in (p, q, same-accepted f)
-
-long-opened : (store : Bytes) → storeSize ≤ length store → opened store ≡ openedFixed (take storeSize store)
-unfolding opened
-long-opened store l = rw (le-ltb (length store) storeSize l, opened)
 
 holds-opens : (store : Bytes) (d : Document) → StoreHolds store d → StoreOpens store d
 holds-opens store d h =

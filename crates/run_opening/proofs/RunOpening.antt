@@ -1,13 +1,13 @@
 -- Opening a run: what its tests tell, one after the other.
 use Prim.Native.Nat.{ℕ, _≤_}
 use native.Mathlib.Omega.{arith}
-use mathlib.Core.Bool.{Bool, true, false, _||_}
+use mathlib.Core.Bool.{Bool, true, false, or-true}
 use mathlib.Core.List.{List}
 use mathlib.Core.Path.{_≡_, refl, sym, _∙_, ap, subst}
 use lib.ListN.{length, take}
 use lib.Seq.{length-take-le}
 use lib.Dec.{eqb}
-use borrow.Author.Tests.{eq-eqb, ne-eqb, le-ltb}
+use borrow.Author.Tests.{eq-eqb, ne-eqb}
 use Rattle.program.specs.Program.{Program}
 use Rattle.format.specs.declared.Refusal.{Refusal}
 use Rattle.format.specs.declared.Reason.the-variants.{StoreTooShort, StoreEmpty, StoreUnsound}
@@ -28,12 +28,8 @@ use Rattle.machine.specs.Machine.{threadLimit}
 use Rattle.run_memory.specs.declared.InUse.{InUse}
 use Rattle.run_memory.specs.RunMemory.{inUse, soundRun}
 use Rattle.run_calls.specs.RunCalls.{tooShort, notBegun, runOpened}
-use Rattle.run_calls.proofs.Opened.{long-told, opened-told, is-lent, is-limited}
+use Rattle.run_calls.proofs.Opened.{fixed-told, long-opened, long-told, opened-told, is-lent, is-limited}
 use Rattle.run_opening.specs.RunOpening.{RunOpenedIs}
-
-or-true : (a : Bool) → a || true ≡ true
-or-true true = refl
-or-true false = refl
 
 -- the rows of a store that opens
 pub program-of : (fixed : Bytes) (n : ℕ) → n ≡ countRows rowLimit fixed → decode fixed .rows ≡ storeProgram n fixed
@@ -54,8 +50,7 @@ module _ (store run : Bytes) (lent : ℕ) (ts : List ThreadRecord) where
   module _ (long : tooShort store run lent ≡ false) where
     -- a store that is long enough
     fixed-opened : opened store ≡ openedFixed fixed
-    unfolding opened
-    fixed-opened = rw (le-ltb (length store) storeSize (long-told store run lent long .store-long), opened)
+    fixed-opened = long-opened store (long-told store run lent long .store-long)
 
     pub not-begun-refused : (n : InUse) → n ≡ inUse run → n .threads ≡ 0 → Answers (Opened.Refused (refusal StoreEmpty 0))
     unfolding runOpened notBegun
@@ -90,31 +85,18 @@ module _ (store run : Bytes) (lent : ℕ) (ts : List ThreadRecord) where
         program : decode fixed .rows ≡ storeProgram rows fixed
         program = program-of fixed rows count
 
-        record Passes : Type 0 where
-          filled : isEmpty fixed ≡ false
-          is-sound : unsound fixed ≡ false
-
-        passes : Passes
-        unfolding openedFixed
-        passes = go (isEmpty fixed) (unsound fixed) refl refl
-          where
-            is : openedFixed fixed ≡ accepted (decode fixed)
-            is = sym fixed-opened ∙ opens-is fixed (opened store) rows h .0
-
-            go : (a b : Bool) → isEmpty fixed ≡ a → unsound fixed ≡ b → Passes
-            go true b p q = let f = rw (p, openedFixed) at is in let z : _≡_ {A = ℕ} 0 1 = cc in absurd (omega arith)
-            go false true p q = let f = rw (p, q, openedFixed) at is in let z : _≡_ {A = ℕ} 0 1 = cc in absurd (omega arith)
-            go false false p q = record { filled = p; is-sound = q }
+        passes : (isEmpty fixed ≡ false) × (unsound fixed ≡ false) × (decode fixed ≡ decode fixed)
+        passes = fixed-told fixed (decode fixed) (sym fixed-opened ∙ opens-is fixed (opened store) rows h .0)
 
         pub run-refused : soundRun (storeProgram rows fixed) run ts ≡ false → Answers (Opened.Refused (refusal StoreUnsound 0))
         unfolding runOpened
-        run-refused s = let t : soundRun (decode fixed .rows) run ts ≡ false = ap (λ (p : Program). soundRun p run ts) program ∙ s in rw (long, passes .filled, begun, passes .is-sound, t) refl
+        run-refused s = let t : soundRun (decode fixed .rows) run ts ≡ false = ap (λ (p : Program). soundRun p run ts) program ∙ s in rw (long, passes .0, begun, passes .1, t) refl
 
         pub run-opens : soundRun (storeProgram rows fixed) run ts ≡ true → threadLimit ≤ length ts → Answers (Opened.Rows rows)
         unfolding runOpened
         run-opens s l =
             let t : soundRun (decode fixed .rows) run ts ≡ true = ap (λ (p : Program). soundRun p run ts) program ∙ s in
-            let opened : runOpened store run lent ts ≡ accepted (decode fixed .rows) = rw (long, passes .filled, begun, passes .is-sound, t) in
+            let opened : runOpened store run lent ts ≡ accepted (decode fixed .rows) = rw (long, passes .0, begun, passes .1, t) in
             let told = opened-told store run lent ts (decode fixed .rows) opened in
             subst (λ (x : Result Program). RunOpenedIs x fixed run ts (Opened.Rows rows)) (sym opened) (
               rows,
