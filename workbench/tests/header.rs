@@ -68,26 +68,51 @@ fn a_record_of_another_layout_is_told_by_the_compiler() {
     }
 }
 
-#[test]
-fn a_caller_in_c_runs_listing_a_to_the_end() {
-    let source = Path::new(env!("CARGO_MANIFEST_DIR")).join("tests/c/run_a.c");
+/// Compiles a program of `tests/c` and links the library to it.
+fn program(name: &str) -> PathBuf {
+    let source = Path::new(env!("CARGO_MANIFEST_DIR")).join(format!("tests/c/{name}.c"));
     let library = of_repository("target/staticlib/libdispenser_c.a");
-    let program = made("run_a");
+    let program = made(name);
     let words = ["-O2", "-o", program.to_str().unwrap()];
     compile("gcc", &words, &[&source, &library]);
-    let printed = |file: &str| {
-        let mut child = Command::new(&program)
-            .stdin(Stdio::piped())
-            .stdout(Stdio::piped())
-            .spawn()
-            .unwrap();
-        let mut stdin = child.stdin.take().unwrap();
-        stdin.write_all(file.as_bytes()).unwrap();
-        drop(stdin);
-        let output = child.wait_with_output().unwrap();
-        let text = String::from_utf8(output.stdout).unwrap();
-        (output.status.code(), text)
-    };
+    program
+}
+
+/// The exit status of a program and what it prints, given a file.
+fn run(program: &Path, file: &str) -> (Option<i32>, String) {
+    let mut child = Command::new(program)
+        .stdin(Stdio::piped())
+        .stdout(Stdio::piped())
+        .spawn()
+        .unwrap();
+    let mut stdin = child.stdin.take().unwrap();
+    stdin.write_all(file.as_bytes()).unwrap();
+    drop(stdin);
+    let output = child.wait_with_output().unwrap();
+    let text = String::from_utf8(output.stdout).unwrap();
+    (output.status.code(), text)
+}
+
+#[test]
+fn refused_run_calls_leave_every_byte() {
+    let (status, text) = run(&program("refused"), A);
+    assert_eq!(status, Some(0));
+    let expected = [
+        "not begun 21 same",
+        "few records 20 same",
+        "short run 20 same",
+        "short store 20 same",
+        "no such thread 30 same",
+        "no meeting 30 same",
+        "no such cell 22 same",
+    ];
+    assert_eq!(text.lines().collect::<Vec<_>>(), expected);
+}
+
+#[test]
+fn a_caller_in_c_runs_listing_a_to_the_end() {
+    let program = program("run_a");
+    let printed = |file: &str| run(&program, file);
     let (status, text) = printed(A);
     assert_eq!(status, Some(0));
     assert_eq!(

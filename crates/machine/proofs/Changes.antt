@@ -62,7 +62,7 @@ module _ (path : Path) where
   pub extends-refl : (g : Marks) → Extends path g g
   extends-refl g = record { cells = omega arith; frames = omega arith; env = λ k l. refl; returns = λ k l. refl; own = λ k i e. inl e }
 
--- a cell that Keeps a value Makes no channel; one that Makes a channel Makes one
+-- a cell that keeps a value makes no channel; one that makes a channel makes one
 own-keeps : (cs : List Marked) (n o : ℕ) (h : Held) (j : Instance) (k : ℕ) (i : Instance) → ownAt (mark n o (Keeps h) j ∷ cs) k ≡ some i → ownAt cs k ≡ some i
 unfolding ownAt madeBy
 own-keeps cs n o h j k i e = go (eqb k (suc (count cs))) e

@@ -1,4 +1,4 @@
--- What memory stands for: environments, values and waiting returns. Each cell carries an instance, which counts only where the cell Makes a channel.
+-- What memory stands for: environments, values and waiting returns. Each cell carries an instance, which counts only where the cell makes a channel.
 use Prim.Native.Nat.{ℕ, suc, _≤_}
 use native.Mathlib.Omega.{arith}
 use mathlib.Core.Bool.{Bool, true, false}
@@ -22,7 +22,7 @@ use Rattle.machine.specs.Machine.{numbered, heldBy, find, closureHeldBy,
 use Rattle.machine.specs.Meaning.{Marked, cells, count, madeBy, ownAt, channelBy, valueBy, keptBy, envAt, valueOf, returnsAt}
 use Rattle.machine.proofs.Like.{Like, neither, both, like-bind, like-map}
 
--- ---- memory that has a meaning: what is named is in use, older, and a channel's cell Makes one
+-- ---- memory that has a meaning: what is named is in use, older, and a channel's cell makes one
 
 abbrev pub HeldIn : List Marked → Held → Type 0
 HeldIn cs Held.Unit = Unit {0}

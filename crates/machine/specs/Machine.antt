@@ -1,4 +1,4 @@
--- "A run on the workbench" (document 02, No. 3): threads, cells and frames, and what a move Makes of them. A bound name takes a cell, a waiting return takes a frame.
+-- "A run on the workbench" (document 02, No. 3): threads, cells and frames, and what a move makes of them. A bound name takes a cell, a waiting return takes a frame.
 use Prim.Native.Nat.{ℕ, zero, suc, _+_}
 use mathlib.Core.Bool.{Bool, true, _&&_}
 use mathlib.Core.List.{List, [], _∷_, _++_}
@@ -49,7 +49,7 @@ unfoldable pub numbered : {A : Type 0} → List A → ℕ → Option A
 numbered [] k = none
 numbered (x ∷ xs) k = pick (eqb k (suc (length xs))) (some x) (numbered xs k)
 
--- the value that a cell of this number Keeps
+-- the value that a cell of this number keeps
 unfoldable pub heldBy : ℕ → Kept → Held
 heldBy k Makes = Channel k
 heldBy k (Keeps h) = h
@@ -330,7 +330,7 @@ module _ (p : Program) where
   unfoldable pub nameThere : ℕ → Bool
   nameThere n = elem n (collect binders p)
 
-  -- what a cell Keeps, where so many are older
+  -- what a cell keeps, where so many are older
   unfoldable pub soundKept : ℕ → Kept → Bool
   soundKept n Makes = true
   soundKept n (Keeps Held.Unit) = true

@@ -28,15 +28,17 @@ cells (c ∷ cs) = c .cell ∷ cells cs
 abbrev pub count : List Marked → ℕ
 count cs = length (cells cs)
 
--- the instance of a cell that Makes a channel
+-- the instance of a cell that makes a channel
 unfoldable pub madeBy : Kept → Instance → Option Instance
 madeBy Makes i = some i
 madeBy (Keeps h) i = none
 
+-- the instance that the cell of this number made
 unfoldable pub ownAt : List Marked → ℕ → Option Instance
 ownAt [] k = none
 ownAt (c ∷ cs) k = pick (eqb k (suc (count cs))) (madeBy (c .cell .kept) (c .instance)) (ownAt cs k)
 
+-- a channel that no cell made, which never arises, would be unit
 unfoldable pub channelBy : Option Instance → Value
 channelBy none = unit
 channelBy (some i) = channel i
@@ -66,6 +68,7 @@ returnsAt cs [] k = []
 returnsAt cs (f ∷ fs) k =
     pick (eqb k (suc (length fs))) (record { name = f .name; rest = f .rest; env = envAt cs (f .cell) } ∷ returnsAt cs fs (f .older)) (returnsAt cs fs k)
 
+-- the state of a thread
 unfoldable pub stateIn : List Marked → List Frame → ThreadRecord → State
 stateIn cs fs t = record { row = t .row; env = envAt cs (t .cell); returns = returnsAt cs fs (t .frame) }
 
