@@ -5,7 +5,7 @@ use mathlib.Core.Bool.{Bool, true, false, So}
 use mathlib.Core.List.{List, [], _∷_, _++_}
 use mathlib.Core.Option.{Option, none, some}
 use mathlib.Core.Path.{_≡_, refl, sym, _∙_, ap, subst}
-use lib.ListN.{length, length-append, set}
+use lib.ListN.{length, length-append, set, length-set}
 use lib.Dec.{eqb}
 use Rattle.program.specs.declared.Row.{Row}
 use Rattle.program.specs.declared.Bind.{Bind}
@@ -95,11 +95,6 @@ module _ (p : Program) (m : Memory) (t : ThreadRecord) where
           found (record { cells = refl; frames = refl; threads = refl })
       go (Row.Bind b) = form-takes b (b .form)
 
-length-put : (ts : List ThreadRecord) (n : ℕ) (u : ThreadRecord) → length (set ts n u) ≡ length ts
-length-put [] n u = refl
-length-put (t ∷ ts) zero u = refl
-length-put (t ∷ ts) (suc n) u = ap suc (length-put ts n u)
-
 -- what is in use after a move: what was, and what the move takes
 pub record Uses (m : Machine) (k : Taken) (m′ : Machine) : Type 0 where
   pub cells : length (m′ .memory .cells) ≡ k .cells + length (m .memory .cells)
@@ -111,7 +106,7 @@ unfolding changed grown
 changed-uses m n k c h = record {
   cells = length-append (c .cells) (m .memory .cells) ∙ ap (λ (n : ℕ). n + length (m .memory .cells)) (h .cells);
   frames = length-append (c .frames) (m .memory .frames) ∙ ap (λ (n : ℕ). n + length (m .memory .frames)) (h .frames);
-  threads = length-append (set (m .threads) n (c .thread)) (c .born) ∙ (let q = length-put (m .threads) n (c .thread) in let r = h .threads in omega (arith, q, r));
+  threads = length-append (set (m .threads) n (c .thread)) (c .born) ∙ (let q = length-set (m .threads) n (c .thread) in let r = h .threads in omega (arith, q, r));
 }
 
 module _ (p : Program) where

@@ -124,11 +124,11 @@ pub stands-for : {m : Machine} {pool : Pool} {path : ℕ → Path} → Stands m 
 stands-for h = record { marks = h .marks; memory-is = h .same; threads-are = h .lined; instances-are = h .apart }
 
 module _ (p : Program) where
-  left-refused : (m : Machine) (o : Order) (n : ℕ) → answer p m o ≡ refused n → left p m o ≡ m
+  pub left-refused : (m : Machine) (o : Order) (n : ℕ) → answer p m o ≡ refused n → left p m o ≡ m
   unfolding left
   left-refused m o n e = rw (e, left)
 
-  left-accepted : (m : Machine) (o : Order) (m′ : Machine) → answer p m o ≡ accepted m′ → left p m o ≡ m′
+  pub left-accepted : (m : Machine) (o : Order) (m′ : Machine) → answer p m o ≡ accepted m′ → left p m o ≡ m′
   unfolding left
   left-accepted m o m′ e = rw (e, left)
 

@@ -29,6 +29,7 @@ use Rattle.machine.specs.Machine as machine
 use Rattle.machine.specs.Machine.{Machine, Change, Order, changes, changedAll, moved, within, answer, left, watched, sound, cellLimit, frameLimit, threadLimit}
 use Rattle.machine.proofs.Sound.{watched-sound}
 use Rattle.machine.proofs.Taking.{moved-uses, run-shown}
+use Rattle.machine.proofs.Watched.{left-refused, left-accepted}
 use Rattle.run_memory.specs.declared.InUse.{InUse}
 use Rattle.run_memory.specs.RunMemory.{runSize, inUse, counts, machineIn, withinLimits, soundRun}
 use Rattle.run_memory.proofs.Codec.{begun, counted-in-use, length-counted}
@@ -162,12 +163,6 @@ module _ (p : Program) (l : Lent) (os : List Order) (h : Watching p l os) (store
       fits-is : (cs : List (ℕ × Change)) → changes p m o ≡ some cs → within (changedAll m cs) ≡ true → answer p m o ≡ machine.accepted (changedAll m cs)
       fits-is cs e w = rw (e, w, answer)
 
-      left-refused : (n : ℕ) → answer p m o ≡ machine.refused n → left p m o ≡ m
-      left-refused n e = rw (e, left)
-
-      left-accepted : (m′ : Machine) → answer p m o ≡ machine.accepted m′ → left p m o ≡ m′
-      left-accepted m′ e = rw (e, left)
-
       made-over : (cs : List (ℕ × Change)) → within (changedAll (machineIn run ts) cs) ≡ false → made run ts (some cs) ≡ turnedAway (refusal LimitExceeded 0) run ts
       made-over cs w = rw (w, made)
 
@@ -178,16 +173,16 @@ module _ (p : Program) (l : Lent) (os : List Order) (h : Watching p l os) (store
       fitting : (cs : List (ℕ × Change)) → changes p m o ≡ some cs → (b : Bool) → within (changedAll m cs) ≡ b → Moves o
       fitting cs e false w =
           let a = over-is cs e w in
-          done _ (same ∙ ap (made run ts) e ∙ made-over cs (ap (λ (m : Machine). within (changedAll m cs)) (h .machine-is) ∙ w)) (sym (ap answerIn a)) (stays o (left-refused 31 a))
+          done _ (same ∙ ap (made run ts) e ∙ made-over cs (ap (λ (m : Machine). within (changedAll m cs)) (h .machine-is) ∙ w)) (sym (ap answerIn a)) (stays o (left-refused p m o 31 a))
       fitting cs e true w =
           let a = fits-is cs e w in
           let w′ : within (changedAll (machineIn run ts) cs) ≡ true = ap (λ (m : Machine). within (changedAll m cs)) (h .machine-is) ∙ w in
           let all = left-all cs run ts (h .lends) (within-told _ w′) in
           done _ (same ∙ ap (made run ts) e ∙ made-fits cs w′) (ap (λ (m : Machine). answered (length (changedAll m cs .threads) ∷ [])) (h .machine-is) ∙ sym (ap answerIn a))
-          (record { lends = all .lends; machine-is = all .machine ∙ ap (λ (m : Machine). changedAll m cs) (h .machine-is) ∙ sym (watched-next p os machine.begin o ∙ left-accepted (changedAll m cs) a) })
+          (record { lends = all .lends; machine-is = all .machine ∙ ap (λ (m : Machine). changedAll m cs) (h .machine-is) ∙ sym (watched-next p os machine.begin o ∙ left-accepted p m o (changedAll m cs) a) })
 
       go : (q : Option (List (ℕ × Change))) → changes p m o ≡ q → Moves o
-      go none e = let a = none-is e in done _ (same ∙ ap (made run ts) e) (sym (ap answerIn a)) (stays o (left-refused 30 a))
+      go none e = let a = none-is e in done _ (same ∙ ap (made run ts) e) (sym (ap answerIn a)) (stays o (left-refused p m o 30 a))
       go (some cs) e = fitting cs e (within (changedAll m cs)) refl
 
 -- ---- beginning
