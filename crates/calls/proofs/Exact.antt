@@ -172,7 +172,7 @@ module _ (store : Bytes) where
       words d h t (some r) (broken-at b) = unfold verdictGiven verdictAnswer statusAnswer refusalAnswer number in VerdictIs.rule-fails d h t r b
       words d h t none (none-broken k) =
           let w = word-is d (holds-well d h) in
-          unfold verdictGiven verdictAnswer statusAnswer in VerdictIs.given d h t k (w _) (w _) (w _) (w _)
+          unfold verdictGiven verdictAnswer statusAnswer in VerdictIs.given d h t k (w _) (w _) (w _) (w _) (w _)
 
       channel : (d : Document) → StoreHolds store d → (b : Bool) → chanRow (d .rows) c ≡ b
           → VerdictIs store c (verdictAnswer (verdictGiven (elim b as (λ b. Result (List Bool)) [ true ↦ verdictDocument d c | false ↦ refused (refusal NotAChannel 0) ])))

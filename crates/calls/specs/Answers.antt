@@ -37,7 +37,7 @@ unfoldable pub writeAnswer : WriteAnswer → Answer
 writeAnswer (write.Written n) = answered (n ∷ [])
 writeAnswer (write.Refused r) = refusalAnswer r
 
--- "Verdict answers with four yes or no together": 1 for yes, 0 for no
+-- "Verdict answers with four yes or no together", five with document 02, No. 4: 1 for yes, 0 for no
 unfoldable pub yesOrNo : Bool → ℕ
 yesOrNo true = 1
 yesOrNo false = 0

@@ -101,7 +101,7 @@ verdictOf c d = elim (chanRow (d .rows) c) [ true ↦ verdictDocument d c | fals
 
 -- no word holds where the call is refused
 abbrev pub noVerdict : Refusal → VerdictAnswer
-noVerdict r = record { status = VerdictStatus.Refused r; words = false ∷ false ∷ false ∷ false ∷ [] }
+noVerdict r = record { status = VerdictStatus.Refused r; words = false ∷ false ∷ false ∷ false ∷ false ∷ [] }
 
 unfoldable pub verdictGiven : Result (List Bool) → VerdictAnswer
 verdictGiven (refused r) = noVerdict r

@@ -7,7 +7,7 @@ use mathlib.Core.Path.{_≡_}
 use lib.ListN.{length, take, replicate}
 use Rattle.program.specs.declared.Bind.{Bind}
 use Rattle.program.specs.declared.Word.{Word}
-use Rattle.program.specs.declared.Word.the-variants.{OneShot, OneToOne, FanOut, FanIn}
+use Rattle.program.specs.declared.Word.the-variants.{OneShot, OneToOne, FanOut, FanIn, OneSync}
 use Rattle.program.specs.Each.{Each}
 use Rattle.program.specs.Program.{bindAt, chanRow}
 use Rattle.program.specs.FlowRule.{FlowRule, KeepsAll}
@@ -77,11 +77,11 @@ pub data WordIs (d : Document) (c : ℕ) (word : Word) : ℕ → Type 0 where
   one : WordHolds d c word → WordIs d c word 1
   none : ¬ (WordHolds d c word) → WordIs d c word 0
 
--- verdict: 20, 21, 22; then 24; then 10 at the line of the smallest row whose flow rule fails; then the four words
+-- verdict: 20, 21, 22; then 24; then 10 at the line of the smallest row whose flow rule fails; then the five words
 pub data VerdictIs (store : Bytes) (c : ℕ) : Answer → Type 0 where
   closed : {a : Answer} → Closed store a → VerdictIs store c a
   no-channel : (d : Document) → StoreHolds store d → ¬ (So (chanRow (d .rows) c)) → VerdictIs store c (turnedBack 24 0)
   rule-fails : (d : Document) → StoreHolds store d → So (chanRow (d .rows) c) → (r : ℕ) → FirstBroken d r → VerdictIs store c (turnedBack 10 (rowLine r))
-  given : (d : Document) → StoreHolds store d → So (chanRow (d .rows) c) → RulesHold d → {oneShot oneToOne fanOut fanIn : ℕ}
-      → WordIs d c OneShot oneShot → WordIs d c OneToOne oneToOne → WordIs d c FanOut fanOut → WordIs d c FanIn fanIn
-      → VerdictIs store c (answered (oneShot ∷ oneToOne ∷ fanOut ∷ fanIn ∷ []))
+  given : (d : Document) → StoreHolds store d → So (chanRow (d .rows) c) → RulesHold d → {oneShot oneToOne fanOut fanIn oneSync : ℕ}
+      → WordIs d c OneShot oneShot → WordIs d c OneToOne oneToOne → WordIs d c FanOut fanOut → WordIs d c FanIn fanIn → WordIs d c OneSync oneSync
+      → VerdictIs store c (answered (oneShot ∷ oneToOne ∷ fanOut ∷ fanIn ∷ oneSync ∷ []))

@@ -5,7 +5,7 @@ use mathlib.Core.List.{List, [], _∷_, map}
 use mathlib.Core.Option.{Option, none, some}
 use lib.ListN.{length}
 use Rattle.program.specs.declared.Word.{Word}
-use Rattle.program.specs.declared.Word.the-variants.{OneShot, OneToOne, FanOut, FanIn}
+use Rattle.program.specs.declared.Word.the-variants.{OneShot, OneToOne, FanOut, FanIn, OneSync}
 use Rattle.program.specs.Test.{least}
 use Rattle.program.specs.Flow.{Table, keepsAt}
 use Rattle.program.specs.Walk.{CanShare, Holds, sendPlace, receivePlace}
@@ -15,9 +15,9 @@ use Rattle.format.specs.Refusals.{refusal, Result, refused, accepted}
 use Rattle.format.specs.Document.{Document, tableOf}
 use Rattle.format.specs.Structure.{rowLine, claimLine, firstFailing}
 
--- "in the order one-shot, one-to-one, fan-out, fan-in"
+-- "in the order one-shot, one-to-one, fan-out, fan-in", and "one-sync last" (document 02, No. 4)
 abbrev pub verdictWords : List Word
-verdictWords = OneShot ∷ OneToOne ∷ FanOut ∷ FanIn ∷ []
+verdictWords = OneShot ∷ OneToOne ∷ FanOut ∷ FanIn ∷ OneSync ∷ []
 
 module _ (d : Document) where
   -- V(n) and C(c)

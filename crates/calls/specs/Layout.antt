@@ -12,7 +12,7 @@ use lib.Dec.{eqb}
 use Rattle.program.specs.declared.Row.{Row}
 use Rattle.program.specs.declared.Bind.{Bind}
 use Rattle.program.specs.declared.Word.{Word}
-use Rattle.program.specs.declared.Word.the-variants.{OneShot, OneToOne, FanOut, FanIn, Many}
+use Rattle.program.specs.declared.Word.the-variants.{OneShot, OneToOne, FanOut, FanIn, Many, OneSync}
 use Rattle.program.specs.Test.{pick}
 use Rattle.program.specs.Each.{collect, elem}
 use Rattle.program.specs.Program.{Program}
@@ -81,10 +81,11 @@ wordCode OneToOne = 2
 wordCode FanOut = 3
 wordCode FanIn = 4
 wordCode Many = 5
+wordCode OneSync = 6
 
 -- every code is below this
 abbrev pub codeLimit : ℕ
-codeLimit = 6
+codeLimit = 7
 
 unfoldable pub claimCode : List Claim → ℕ → ℕ
 claimCode [] c = 0
@@ -122,7 +123,7 @@ decodeSets zero n bs = []
 decodeSets (suc k) n bs = withEntry n (membersFrom 0 (take memberLimit bs)) (decodeSets k (suc n) (drop memberLimit bs))
 
 unfoldable pub wordOf : ℕ → Word
-wordOf k = pick (eqb k 1) OneShot (pick (eqb k 2) OneToOne (pick (eqb k 3) FanOut (pick (eqb k 4) FanIn Many)))
+wordOf k = pick (eqb k 1) OneShot (pick (eqb k 2) OneToOne (pick (eqb k 3) FanOut (pick (eqb k 4) FanIn (pick (eqb k 6) OneSync Many))))
 
 -- the claims, where the first byte is that of row c
 unfoldable pub decodeClaims : ℕ → Bytes → List Claim

@@ -26,10 +26,10 @@ pub enum VerdictStatus {
     Refused(Refusal),
 }
 
-// The four words in the order one-shot, one-to-one, fan-out, fan-in; all no where the call is refused.
+// The five words in the order one-shot, one-to-one, fan-out, fan-in, one-sync; all no where the call is refused.
 pub struct VerdictAnswer {
     pub status: VerdictStatus,
-    pub words: [bool; 4],
+    pub words: [bool; 5],
 }
 
 // The bytes written.

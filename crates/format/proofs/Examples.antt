@@ -85,11 +85,12 @@ later : map checked
     tail "[flow 0 [u]]\n" ∷
     tail "[claim 0 many]\n[claim 0 many]\n" ∷
     tail "[claim 0 one-sync]\n" ∷
+    tail "[claim 0 one-synch]\n" ∷
     tail "[flow 1 [u]]\n" ∷
     tail "[comm 0 [1]]\n" ∷
     tail "[comm 1 [u]]\n" ∷
     tail "[claim 1 many]\n" ∷ [])
-    ≡ ([] ∷ (2 ∷ 5 ∷ []) ∷ (2 ∷ 5 ∷ []) ∷ (2 ∷ 5 ∷ []) ∷ (5 ∷ 5 ∷ []) ∷ (3 ∷ 5 ∷ []) ∷ (5 ∷ 5 ∷ []) ∷ (5 ∷ 6 ∷ []) ∷ (2 ∷ 5 ∷ []) ∷ (9 ∷ 5 ∷ []) ∷ (9 ∷ 5 ∷ []) ∷ (9 ∷ 5 ∷ []) ∷ (9 ∷ 5 ∷ []) ∷ [])
+    ≡ ([] ∷ (2 ∷ 5 ∷ []) ∷ (2 ∷ 5 ∷ []) ∷ (2 ∷ 5 ∷ []) ∷ (5 ∷ 5 ∷ []) ∷ (3 ∷ 5 ∷ []) ∷ (5 ∷ 5 ∷ []) ∷ (5 ∷ 6 ∷ []) ∷ [] ∷ (2 ∷ 5 ∷ []) ∷ (9 ∷ 5 ∷ []) ∷ (9 ∷ 5 ∷ []) ∷ (9 ∷ 5 ∷ []) ∷ (9 ∷ 5 ∷ []) ∷ [])
 unfolding checked tail
 later = refl
 

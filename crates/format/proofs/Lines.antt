@@ -7,7 +7,7 @@ use mathlib.Core.Option.{some}
 use mathlib.Core.Path.{_≡_, refl}
 use lib.ListN.{length}
 use Rattle.program.specs.declared.Word.{Word}
-use Rattle.program.specs.declared.Word.the-variants.{OneShot, OneToOne, FanOut, FanIn, Many}
+use Rattle.program.specs.declared.Word.the-variants.{OneShot, OneToOne, FanOut, FanIn, Many, OneSync}
 use Rattle.program.specs.Maybe.{_>>=_}
 use Rattle.program.specs.Each.{Member, here, there, every, Each, nil, _&_}
 use Rattle.program.proofs.Maybe.{Found, found, found-bind}
@@ -68,7 +68,7 @@ module _ (s : Bytes) where
   unfolding claimWords nonzero every ascii wordText
   word-found at =
       one-of-found claimWords (λ x. Stands (ascii (wordText (x .0))) s at (x .1)) s at refl
-      ((λ next h. h) & ((λ next h. h) & ((λ next h. h) & ((λ next h. h) & ((λ next h. h) & nil)))))
+      ((λ next h. h) & ((λ next h. h) & ((λ next h. h) & ((λ next h. h) & ((λ next h. h) & ((λ next h. h) & nil))))))
 
   -- the line that was read behind its number
   record Content (section : Section) (n at : ℕ) (l : Line) (next : ℕ) : Type 0 where
@@ -133,6 +133,7 @@ word-listed OneToOne = there (here refl)
 word-listed FanOut = there (there (here refl))
 word-listed FanIn = there (there (there (here refl)))
 word-listed Many = there (there (there (there (here refl))))
+word-listed OneSync = there (there (there (there (there (here refl)))))
 
 module _ (s : Bytes) where
   any-set-stands : (ms : List ℕ) (at next : ℕ) → SetReadable ms → Stands (setText ms) s at next → Rattle.format.specs.Read.readSet s at ≡ some (ms, next)

@@ -7,7 +7,7 @@ use Rattle.program.specs.declared.Bind.{Bind}
 use Rattle.program.specs.declared.Form.{Form}
 use Rattle.program.specs.declared.Form.the-variants.{Chan, Send, Recv, Pair, Left, Right, Fun, Spawn, Sync, First, Second, Case, Apply}
 use Rattle.program.specs.declared.Word.{Word}
-use Rattle.program.specs.declared.Word.the-variants.{OneShot, OneToOne, FanOut, FanIn, Many}
+use Rattle.program.specs.declared.Word.the-variants.{OneShot, OneToOne, FanOut, FanIn, Many, OneSync}
 use Rattle.program.specs.Each.{collect}
 use Rattle.program.specs.Program.{Program}
 use Rattle.format.specs.Text.{Bytes, ascii, digits, argument, arguments}
@@ -75,6 +75,7 @@ wordText OneToOne = "one-to-one"
 wordText FanOut = "fan-out"
 wordText FanIn = "fan-in"
 wordText Many = "many"
+wordText OneSync = "one-sync"
 
 -- the lines after the first
 unfoldable pub lineText : Line → Bytes

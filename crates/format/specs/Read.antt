@@ -10,7 +10,7 @@ use Rattle.program.specs.declared.Row.{Row}
 use Rattle.program.specs.declared.Bind.{Bind}
 use Rattle.program.specs.declared.Form.{Form}
 use Rattle.program.specs.declared.Word.{Word}
-use Rattle.program.specs.declared.Word.the-variants.{OneShot, OneToOne, FanOut, FanIn, Many}
+use Rattle.program.specs.declared.Word.the-variants.{OneShot, OneToOne, FanOut, FanIn, Many, OneSync}
 use Rattle.program.specs.Maybe.{_>>=_}
 use Rattle.program.specs.Test.{pick}
 use Rattle.program.specs.Each.{every}
@@ -91,7 +91,7 @@ readSet s at = do
   some (m ∷ ms, e)
 
 unfoldable pub claimWords : List (String × Word)
-claimWords = ("one-shot", OneShot) ∷ ("one-to-one", OneToOne) ∷ ("fan-out", FanOut) ∷ ("fan-in", FanIn) ∷ ("many", Many) ∷ []
+claimWords = ("one-shot", OneShot) ∷ ("one-to-one", OneToOne) ∷ ("fan-out", FanOut) ∷ ("fan-in", FanIn) ∷ ("many", Many) ∷ ("one-sync", OneSync) ∷ []
 
 -- the first word of a line
 unfoldable pub lineWords : List (String × Section)

@@ -13,7 +13,7 @@ use Rattle.program.specs.declared.Row.{Row}
 use Rattle.program.specs.declared.Bind.{Bind}
 use Rattle.program.specs.declared.Form.{Form}
 use Rattle.program.specs.declared.Form.the-variants.{Chan, Send, Recv, Left, Fun, Spawn, Sync, Case, Apply}
-use Rattle.program.specs.declared.Word.the-variants.{OneShot, OneToOne, FanOut, FanIn}
+use Rattle.program.specs.declared.Word.the-variants.{OneShot, OneToOne, FanOut, FanIn, OneSync}
 use Rattle.program.specs.Test.{all, any, test, either?}
 use Rattle.program.specs.Maybe.{_>>=_, when, has, given, provided, _<|>_}
 use Rattle.program.specs.Each.{Member, here, there, every}
@@ -75,7 +75,7 @@ verdicts s =
     let p = s .rows in
     let flow = sets (s .flow) in
     let r = reach p flow in
-    map (λ w. verdict p r (reached p r) w (sendPlace p flow 1) (receivePlace p flow 1)) (OneShot ∷ OneToOne ∷ FanOut ∷ FanIn ∷ [])
+    map (λ w. verdict p r (reached p r) w (sendPlace p flow 1) (receivePlace p flow 1)) (OneShot ∷ OneToOne ∷ FanOut ∷ FanIn ∷ OneSync ∷ [])
 
 -- the rows of the pool that a list of steps leaves
 ran : Sample → List Step → List ℕ
@@ -132,6 +132,23 @@ returning = record {
   flow = (u ∷ []) ∷ (row 1 ∷ []) ∷ (row 2 ∷ []) ∷ (row 3 ∷ []) ∷ (row 3 ∷ []) ∷ (u ∷ []) ∷ (u ∷ []) ∷ (u ∷ []) ∷ (u ∷ []) ∷ [];
 }
 
+-- parent and child both receive
+bothReceive : Sample
+unfolding bind
+bothReceive = record {
+  rows = bind 0 Form.Unit 1 ∷ bind 1 Chan 2 ∷ bind 2 (Recv 1) 3 ∷ bind 3 (Spawn 4) 6 ∷ bind 4 (Sync 2) 5 ∷ Row.Result 4 ∷ bind 5 (Sync 2) 7 ∷ Row.Result 5 ∷ [];
+  flow = (u ∷ []) ∷ (row 1 ∷ []) ∷ (row 2 ∷ []) ∷ (u ∷ []) ∷ (u ∷ []) ∷ (u ∷ []) ∷ [];
+}
+
+-- the parent receives twice, one after the other, and a child sends once
+receivesInTurn : Sample
+unfolding bind
+receivesInTurn = record {
+  rows = bind 0 Form.Unit 1 ∷ bind 1 Chan 2 ∷ bind 2 (Spawn 3) 6 ∷ bind 3 (Send 1 0) 4 ∷ bind 4 (Sync 3) 5 ∷ Row.Result 4 ∷
+      bind 5 (Recv 1) 7 ∷ bind 6 (Sync 5) 8 ∷ bind 7 (Sync 5) 9 ∷ Row.Result 7 ∷ [];
+  flow = (u ∷ []) ∷ (row 1 ∷ []) ∷ (u ∷ []) ∷ (row 3 ∷ []) ∷ (u ∷ []) ∷ (row 6 ∷ []) ∷ (u ∷ []) ∷ (u ∷ []) ∷ [];
+}
+
 -- a function that applies itself
 recursive : Sample
 unfolding bind
@@ -146,20 +163,25 @@ unfolding recursive
 forgetful = record { rows = recursive .rows; flow = (u ∷ []) ∷ (row 1 ∷ []) ∷ [] ∷ (u ∷ []) ∷ [] ∷ [] ∷ [] }
 
 -- every sample's tables keep the flow rules, but for the last
-rules : map failing (oneShot ∷ inTurn ∷ atOnce ∷ loop ∷ branches ∷ returning ∷ recursive ∷ forgetful ∷ []) ≡ ([] ∷ [] ∷ [] ∷ [] ∷ [] ∷ [] ∷ [] ∷ (1 ∷ []) ∷ [])
-unfolding failing oneShot inTurn atOnce loop branches returning forgetful
+rules : map failing (oneShot ∷ inTurn ∷ atOnce ∷ loop ∷ branches ∷ returning ∷ bothReceive ∷ receivesInTurn ∷ recursive ∷ forgetful ∷ []) ≡ ([] ∷ [] ∷ [] ∷ [] ∷ [] ∷ [] ∷ [] ∷ [] ∷ [] ∷ (1 ∷ []) ∷ [])
+unfolding failing oneShot inTurn atOnce loop branches returning bothReceive receivesInTurn forgetful
 rules = refl
 
 slips : map verdicts (oneShot ∷ inTurn ∷ atOnce ∷ loop ∷ branches ∷ returning ∷ []) ≡ (
-    (true ∷ true ∷ true ∷ true ∷ []) ∷
-    (false ∷ true ∷ true ∷ true ∷ []) ∷
-    (false ∷ false ∷ false ∷ true ∷ []) ∷
-    (false ∷ true ∷ true ∷ true ∷ []) ∷
-    (true ∷ true ∷ true ∷ true ∷ []) ∷
-    (false ∷ true ∷ true ∷ true ∷ []) ∷
+    (true ∷ true ∷ true ∷ true ∷ true ∷ []) ∷
+    (false ∷ true ∷ true ∷ true ∷ false ∷ []) ∷
+    (false ∷ false ∷ false ∷ true ∷ false ∷ []) ∷
+    (false ∷ true ∷ true ∷ true ∷ false ∷ []) ∷
+    (true ∷ true ∷ true ∷ true ∷ true ∷ []) ∷
+    (false ∷ true ∷ true ∷ true ∷ false ∷ []) ∷
     [])
 unfolding verdicts oneShot inTurn atOnce loop branches returning
 slips = refl
+
+-- one-sync: two receives one after the other break it, and so do two at once, which break fan-in too
+receipts : map verdicts (receivesInTurn ∷ bothReceive ∷ []) ≡ ((true ∷ true ∷ true ∷ true ∷ false ∷ []) ∷ (true ∷ false ∷ true ∷ false ∷ false ∷ []) ∷ [])
+unfolding verdicts receivesInTurn bothReceive
+receipts = refl
 
 -- a whole run of example A; the last step is not allowed and changes nothing
 meeting : ran oneShot
@@ -205,6 +227,11 @@ module _ (p : Program) (pool : Pool) (i : Instance) where
   unfolding AtReceive
   at-receive path e = let (st, q, h) = bind-elim (stateOf pool path) (receivesOn p) e in (st, member-of pool path st q, h)
 
+  -- two paths at receives that are not the same break one-sync
+  two-receives : (x y : Path) → test (Snoc-discrete sameLabel x y) ≡ false → AtReceive p pool i x → AtReceive p pool i y → ¬ (HistoryFits p pool i OneSync)
+  unfolding HistoryFits Fits
+  two-receives x y differ a b h = false≢true (sym differ ∙ test-intro _ (h .1 x y tt a b))
+
   -- two senders apart break one-shot, fan-out and one-to-one, two receivers apart fan-in and one-to-one
   module _ (x y : Path) (apart : Apart x y) where
     two-senders : AtSend p pool i x → AtSend p pool i y → ¬ (HistoryFits p pool i OneShot) × ¬ (HistoryFits p pool i FanOut) × ¬ (HistoryFits p pool i OneToOne)
@@ -218,14 +245,6 @@ module _ (p : Program) (pool : Pool) (i : Instance) where
     two-receivers : AtReceive p pool i x → AtReceive p pool i y → ¬ (HistoryFits p pool i FanIn) × ¬ (HistoryFits p pool i OneToOne)
     unfolding HistoryFits Fits
     two-receivers a b = (λ h. unordered x y apart (h x y tt a b), λ h. unordered x y apart (h .1 x y tt a b))
-
--- parent and child both receive
-bothReceive : Sample
-unfolding bind
-bothReceive = record {
-  rows = bind 0 Form.Unit 1 ∷ bind 1 Chan 2 ∷ bind 2 (Recv 1) 3 ∷ bind 3 (Spawn 4) 6 ∷ bind 4 (Sync 2) 5 ∷ Row.Result 4 ∷ bind 5 (Sync 2) 7 ∷ Row.Result 5 ∷ [];
-  flow = (u ∷ []) ∷ (row 1 ∷ []) ∷ (row 2 ∷ []) ∷ (u ∷ []) ∷ [] ∷ [] ∷ [];
-}
 
 -- the instance that a run's first thread makes at row 1
 jam : Instance
@@ -271,3 +290,20 @@ receivers-break :
 unfolding standing bothReceive apartSteps parent child
 receivers-break =
     two-receivers (bothReceive .rows) (run (bothReceive .rows) apartSteps) jam parent child parted (at-receive _ _ _ parent refl) (at-receive _ _ _ child refl)
+
+-- the parent's two receives, one after the other, break one-sync
+turnSteps : List Step
+turnSteps =
+    own ε ∷ own (ε ▷ next 0) ∷ own (ε ▷ next 0 ▷ next 1) ∷ own (ε ▷ next 0 ▷ next 1 ▷ next 2) ∷ own (ε ▷ next 0 ▷ next 1 ▷ spawn 2)
+    ∷ meet (ε ▷ next 0 ▷ next 1 ▷ spawn 2 ▷ next 3) (ε ▷ next 0 ▷ next 1 ▷ next 2 ▷ next 5) ∷ []
+
+firstReceive : Path
+firstReceive = ε ▷ next 0 ▷ next 1 ▷ next 2 ▷ next 5
+
+secondReceive : Path
+unfolding firstReceive
+secondReceive = firstReceive ▷ next 6
+
+turn-breaks : ¬ (HistoryFits (receivesInTurn .rows) (run (receivesInTurn .rows) turnSteps) jam OneSync)
+unfolding standing receivesInTurn turnSteps secondReceive ℕ-discrete
+turn-breaks = two-receives (receivesInTurn .rows) (run (receivesInTurn .rows) turnSteps) jam firstReceive secondReceive refl (at-receive _ _ _ firstReceive refl) (at-receive _ _ _ secondReceive refl)

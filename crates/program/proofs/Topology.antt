@@ -1,6 +1,6 @@
 -- Laws of the words.
 use Rattle.program.specs.declared.Word.{Word}
-use Rattle.program.specs.declared.Word.the-variants.{OneShot, OneToOne, FanOut, FanIn, Many}
+use Rattle.program.specs.declared.Word.the-variants.{OneShot, OneToOne, FanOut, FanIn, Many, OneSync}
 use Rattle.program.specs.Snoc.{Snoc}
 use Rattle.program.specs.Topology.{Fits}
 
@@ -13,3 +13,4 @@ module _ {A : Type 0} (judged : Snoc A → Snoc A → Type 0) where
   fits-fewer S S′ R R′ s r FanOut h = λ x y j a b. h x y j (s x a) (s y b)
   fits-fewer S S′ R R′ s r FanIn h = λ x y j a b. h x y j (r x a) (r y b)
   fits-fewer S S′ R R′ s r Many h = tt
+  fits-fewer S S′ R R′ s r OneSync (h, k) = (λ x y j a b. h x y j (s x a) (s y b), λ x y j a b. k x y j (r x a) (r y b))

@@ -7,6 +7,10 @@ use Rattle.program.specs.Program.{Program}
 use Rattle.program.specs.Run.{Path, Instance, State, Pool, sendsOn, receivesOn}
 use Rattle.program.specs.Topology.{Fits}
 
+-- at most one path stands so
+abbrev pub AtMostOne : (Path → Type 0) → Type 0
+AtMostOne stands = (x y : Path) → stands x → stands y → x ≡ y
+
 module _ (p : Program) (pool : Pool) (i : Instance) where
   unfoldable pub AtSend : Path → Type 0
   AtSend path = (st : State) × Member (record { path = path; state = st }) pool × (sendsOn p st ≡ some i)

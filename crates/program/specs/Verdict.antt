@@ -7,7 +7,7 @@ use lib.Dec.{eqb}
 use Rattle.program.specs.declared.Ends.{Ends}
 use Rattle.program.specs.declared.Facts.{Facts}
 use Rattle.program.specs.declared.Word.{Word}
-use Rattle.program.specs.declared.Word.the-variants.{OneShot, OneToOne, FanOut, FanIn, Many}
+use Rattle.program.specs.declared.Word.the-variants.{OneShot, OneToOne, FanOut, FanIn, Many, OneSync}
 use Rattle.program.specs.Test.{any}
 use Rattle.program.specs.Maybe.{has}
 use Rattle.program.specs.Program.{Program, forkAt}
@@ -19,13 +19,18 @@ use Rattle.program.specs.Closure.{closed}
 unfoldable pub reach : Program → Table → ℕ → ℕ → Bool
 reach p flow = closed (length p) (edge p flow)
 
+-- of the walks that come to some places any two are the same
+abbrev pub once : Ends → Bool
+once e = not (e .twice) && not (e .rivals)
+
 -- what a word says, by what is found of walks that come to send places and to receive places
 unfoldable pub says : Word → Facts → Bool
-says OneShot f = not (f .sends .twice) && not (f .sends .rivals)
+says OneShot f = once (f .sends)
 says OneToOne f = not (f .sends .rivals) && not (f .receives .rivals)
 says FanOut f = not (f .sends .rivals)
 says FanIn f = not (f .receives .rivals)
 says Many f = true
+says OneSync f = once (f .sends) && once (f .receives)
 
 -- what follows takes that relation as it comes
 module _ (p : Program) (reach : ℕ → ℕ → Bool) where

@@ -72,6 +72,7 @@ pub enum Word {
     FanOut,
     FanIn,
     Many,
+    OneSync,
 }
 
 // What is found of the walks that come to some places: one that comes to two of them, one after the other, and two that

@@ -10,7 +10,7 @@ use Rattle.program.specs.declared.Bind.{Bind}
 use Rattle.program.specs.declared.Form.{Form}
 use Rattle.program.specs.declared.Form.the-variants.{Chan, Send, Recv, Pair, Left, Right, Fun, Spawn, Sync, First, Second, Case, Apply}
 use Rattle.program.specs.declared.Word.{Word}
-use Rattle.program.specs.declared.Word.the-variants.{OneShot, OneToOne, FanOut, FanIn, Many}
+use Rattle.program.specs.declared.Word.the-variants.{OneShot, OneToOne, FanOut, FanIn, Many, OneSync}
 use Rattle.program.specs.Each.{collect}
 use Rattle.program.specs.Program.{Program}
 use Rattle.format.specs.Limits.{rowLimit}
@@ -111,6 +111,7 @@ word-length OneToOne = omega arith
 word-length FanOut = omega arith
 word-length FanIn = omega arith
 word-length Many = omega arith
+word-length OneSync = omega arith
 
 claim-length : (k : Claim) → length (lineText (claim k)) ≤ 40
 unfolding lineText ascii

@@ -10,7 +10,7 @@ use lib.ListN.{length, getD}
 use lib.Dec.{ltb, eqb, lit<}
 use borrow.Author.Tests.{eqb-true, eq-eqb, ne-eqb}
 use Rattle.program.specs.declared.Word.{Word}
-use Rattle.program.specs.declared.Word.the-variants.{OneShot, OneToOne, FanOut, FanIn, Many}
+use Rattle.program.specs.declared.Word.the-variants.{OneShot, OneToOne, FanOut, FanIn, Many, OneSync}
 use Rattle.program.specs.Each.{every, Each, nil, _&_}
 use Rattle.program.proofs.Each.{each-imp, each-map}
 use Rattle.format.specs.Limits.{rowLimit}
@@ -37,7 +37,7 @@ unfolding claimCode
 code-none c [] nil = refl
 code-none c (k ∷ ks) (l & h) = rw (ne-eqb c (k .channel) (omega arith), claimCode) (code-none c ks h)
 
-word-again : (k : ℕ) → eqb k 0 ≡ false → k < 6 → wordCode (wordOf k) ≡ k
+word-again : (k : ℕ) → eqb k 0 ≡ false → k < codeLimit → wordCode (wordOf k) ≡ k
 unfolding wordCode wordOf
 word-again zero e l = absurd (false≢true (sym e))
 word-again (suc zero) e l = refl
@@ -45,9 +45,10 @@ word-again (suc (suc zero)) e l = refl
 word-again (suc (suc (suc zero))) e l = refl
 word-again (suc (suc (suc (suc zero)))) e l = refl
 word-again (suc (suc (suc (suc (suc zero))))) e l = refl
-word-again (suc (suc (suc (suc (suc (suc k)))))) e l = absurd (omega arith)
+word-again (suc (suc (suc (suc (suc (suc zero)))))) e l = refl
+word-again (suc (suc (suc (suc (suc (suc (suc k))))))) e l = absurd (omega arith)
 
--- a byte below 6 is the code of its claim
+-- a byte below the limit is the code of its claim
 code-again : (c : ℕ) (ks : Bytes) → Each (λ b. b < codeLimit) ks → (j : ℕ) → claimCode (decodeClaims c ks) (c + j) ≡ getD ks j 0
 unfolding decodeClaims claimCode
 code-again c [] h j = refl
@@ -64,15 +65,16 @@ code-again c (k ∷ ks) (l & h) (suc j) =
 claims-again : (n : ℕ) (ks : Bytes) → length ks ≡ n → Each (λ b. b < codeLimit) ks → counting n 0 (claimCode (decodeClaims 0 ks)) ≡ ks
 claims-again n ks e h = counting-is n 0 _ 0 ks e (code-again 0 ks h)
 
-word-range : (w : Word) → wordCode w < 6
+word-range : (w : Word) → wordCode w < codeLimit
 unfolding wordCode
 word-range OneShot = lit< tt
 word-range OneToOne = lit< tt
 word-range FanOut = lit< tt
 word-range FanIn = lit< tt
 word-range Many = lit< tt
+word-range OneSync = lit< tt
 
-code-range : (ks : List Claim) (c : ℕ) → claimCode ks c < 6
+code-range : (ks : List Claim) (c : ℕ) → claimCode ks c < codeLimit
 unfolding claimCode
 code-range [] c = lit< tt
 code-range (k ∷ ks) c =
@@ -82,7 +84,7 @@ code-range (k ∷ ks) c =
 pub claims-iff : (n : ℕ) (ks : Bytes) → length ks ≡ n → So (every (λ b. ltb b codeLimit) ks) ↔ (counting n 0 (claimCode (decodeClaims 0 ks)) ≡ ks)
 claims-iff n ks e =
     let cs = decodeClaims 0 ks in
-    (λ t. claims-again n ks e (below-iff 6 ks .0 t), λ q. below-iff 6 ks .1 (rw q at (counting-each {P = λ b. b < 6} n 0 (claimCode cs) (code-range cs))))
+    (λ t. claims-again n ks e (below-iff codeLimit ks .0 t), λ q. below-iff codeLimit ks .1 (rw q at (counting-each {P = λ b. b < codeLimit} n 0 (claimCode cs) (code-range cs))))
 
 -- the claims that are read rise
 pub claims-rise : (ks : Bytes) → So (rising (map (λ (c : Claim). c .channel) (decodeClaims 0 ks)))

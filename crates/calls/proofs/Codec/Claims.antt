@@ -8,7 +8,7 @@ use mathlib.Core.Option.{Option, none, some}
 use lib.Dec.{eqb, lit<}
 use borrow.Author.Tests.{eqb-true}
 use Rattle.program.specs.declared.Word.{Word}
-use Rattle.program.specs.declared.Word.the-variants.{OneShot, OneToOne, FanOut, FanIn, Many}
+use Rattle.program.specs.declared.Word.the-variants.{OneShot, OneToOne, FanOut, FanIn, Many, OneSync}
 use Rattle.program.specs.Test.{pick}
 use Rattle.program.specs.Each.{Each}
 use Rattle.program.proofs.Each.{each-imp}
@@ -37,6 +37,7 @@ claim-of-word OneToOne c = refl
 claim-of-word FanOut c = refl
 claim-of-word FanIn c = refl
 claim-of-word Many c = refl
+claim-of-word OneSync c = refl
 
 word-range : (w : Word) → Byte (wordCode w)
 unfolding wordCode
@@ -45,6 +46,7 @@ word-range OneToOne = lit< tt
 word-range FanOut = lit< tt
 word-range FanIn = lit< tt
 word-range Many = lit< tt
+word-range OneSync = lit< tt
 
 claim-lookup : (ks : List Claim) (c : ℕ) → claimOf (claimCode ks c) c ≡ lookup (λ (k : Claim). k .channel) ks c
 unfolding claimOf claimCode lookup

@@ -6,7 +6,7 @@ use mathlib.Core.Logic.{_↔_, inl, inr, ⊎-elim}
 use native.Mathlib.Omega.{arith}
 use lib.ListN.{length}
 use Rattle.program.specs.declared.Word.{Word}
-use Rattle.program.specs.declared.Word.the-variants.{OneShot, OneToOne, FanOut, FanIn, Many}
+use Rattle.program.specs.declared.Word.the-variants.{OneShot, OneToOne, FanOut, FanIn, Many, OneSync}
 use Rattle.program.specs.Flow.{Table}
 use Rattle.program.specs.Maybe.{has}
 use Rattle.program.specs.Program.{Program, forkAt}
@@ -131,6 +131,8 @@ module _ (p : Program) (well : WellFormed p) (flow : Table) (rows : 0 < length p
   verdict-iff FanOut sends receives = ordered-iff sends
   verdict-iff FanIn sends receives = ordered-iff receives
   verdict-iff Many sends receives = (λ h. tt, λ h. refl)
+  verdict-iff OneSync sends receives =
+      (λ h. (same-iff sends .0 (search and-left), same-iff receives .0 (search and-right)), λ (h, k). and-intro (same-iff sends .1 h) (same-iff receives .1 k))
 
 -- the grid tells
 pub reach-tells : (p : Program) → WellFormed p → (flow : Table) → TellsReach p flow (reach p flow)

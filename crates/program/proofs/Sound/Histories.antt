@@ -4,14 +4,14 @@ use mathlib.Core.Bool.{Bool, So}
 use mathlib.Core.List.{List, map}
 use mathlib.Core.Option.{some}
 use mathlib.Core.Path.{_≡_, sym, _∙_, ap}
-use mathlib.Core.Logic.{inl, inr, ⊎-elim}
+use mathlib.Core.Logic.{_↔_, inl, inr, ⊎-elim}
 use Rattle.program.specs.declared.Word.{Word}
-use Rattle.program.specs.declared.Word.the-variants.{OneShot, OneToOne, FanOut, FanIn, Many}
+use Rattle.program.specs.declared.Word.the-variants.{OneShot, OneToOne, FanOut, FanIn, Many, OneSync}
 use Rattle.program.specs.Each.{Member}
 use Rattle.program.specs.Flow.{Table, keepsAll}
-use Rattle.program.specs.History.{AtSend, AtReceive, HistoryFits}
+use Rattle.program.specs.History.{AtMostOne, AtSend, AtReceive, HistoryFits}
 use Rattle.program.specs.Program.{Program, chanAt}
-use Rattle.program.specs.Run.{Path, Instance, made, Step, sendsOn, receivesOn, run}
+use Rattle.program.specs.Run.{Path, Instance, made, Pool, Step, sendsOn, receivesOn, run}
 use Rattle.program.specs.Snoc.{Ordered}
 use Rattle.program.specs.Topology.{Fits, EveryTwo}
 use Rattle.program.specs.Walk.{Walk, Shares, CanShare, EndsAt, Holds, sendPlace, receivePlace}
@@ -107,6 +107,7 @@ module _ (p : Program) (well : WellFormed p) (flow : Table) (ts : List Traced) (
       fits FanOut h = ordered-transfer judged sends S atS judgeS h
       fits FanIn h = ordered-transfer judged receives R atR judgeR h
       fits Many h = tt
+      fits OneSync (h, k) = (same-transfer judged sends S atS judgeS h, same-transfer judged receives R atR judgeR k)
 
 -- the walks of any two traced threads can share a run
 pub member-shares : (p : Program) → WellFormed p → (flow : Table) (ts : List Traced) → Traces p (Good p flow) ts → (s t : Traced) → Member s ts → Member t ts → CanShare p (s .walk) (t .walk)
@@ -156,3 +157,8 @@ claims-hold p flow comm well keeps word n c chan holds ss maker =
     let shares = member-shares p well flow (r .traced) (r .traces) in
     rw (r .same) at (instance-fits p well flow (r .traced) (r .traces) n c chan maker (CanShare p)
     (λ x y a b. shares (a .0) (b .0) (a .1) (b .1)) (λ x y a b. shares (a .0) (b .0) (a .1) (b .1)) word holds)
+
+-- Request No. 4: a history fits one-sync exactly if it "holds at most one path at sends and at most one at receives"
+pub one-sync-iff : (p : Program) (pool : Pool) (i : Instance) → HistoryFits p pool i OneSync ↔ (AtMostOne (AtSend p pool i) × AtMostOne (AtReceive p pool i))
+unfolding HistoryFits Fits
+one-sync-iff p pool i = (λ (h, k). (λ x y. h x y tt, λ x y. k x y tt), λ (h, k). (λ x y _. h x y, λ x y _. k x y))
