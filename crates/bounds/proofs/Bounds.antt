@@ -287,16 +287,16 @@ bits-within : (bs : List Bool) → Each (λ v. v ≤ 1) (map yesOrNo bs)
 bits-within [] = nil
 bits-within (b ∷ bs) = bit-within b & bits-within bs
 
--- the lines of a verdict are early, and it has four words
+-- the lines of a verdict are early, and it has every word, also where it is refused
 record Worded (x : Result (List Bool)) : Type 0 where
   early : lineOf x ≤ lastLine
-  four : length (verdictGiven x .words) ≡ 4
+  whole : length (verdictGiven x .words) ≡ length verdictWords
 
-after-worded : (d : Document) → Few d → (bs : List Bool) → length bs ≡ 4 → Worded (after10 d (accepted bs))
+after-worded : (d : Document) → Few d → (bs : List Bool) → length bs ≡ length verdictWords → Worded (after10 d (accepted bs))
 unfolding after10 verdictGiven
-after-worded d few bs h = record { early = after-line d few (accepted bs) (omega arith); four = go (failingRow d) }
+after-worded d few bs h = record { early = after-line d few (accepted bs) (omega arith); whole = go (failingRow d) }
   where
-    go : (o : Option ℕ) → length (verdictGiven (elim o as (λ o. Result (List Bool)) [ some r ↦ refused (refusal FlowRuleFails (rowLine r)) | none ↦ accepted bs ]) .words) ≡ 4
+    go : (o : Option ℕ) → length (verdictGiven (elim o as (λ o. Result (List Bool)) [ some r ↦ refused (refusal FlowRuleFails (rowLine r)) | none ↦ accepted bs ]) .words) ≡ length verdictWords
     go (some r) = refl
     go none = h
 
@@ -305,10 +305,10 @@ unfolding andThen verdictOf verdictGiven verdictDocument
 verdict-worded store c = go (opened store) (opens-to store)
   where
     go : (x : Result Document) → OpensTo store x → Worded (andThen x (verdictOf c))
-    go (refused r) not-opened = record { early = omega arith; four = refl }
+    go (refused r) not-opened = record { early = omega arith; whole = refl }
     go (accepted d) (decoded q) =
         either (chanRow (d .rows) c) (λ e. rw (e, verdictOf) (after-worded d (opened-few store d q) (map (wordHolds d (reaches d) c) verdictWords) refl))
-        (λ e. rw (e, verdictOf) (record { early = omega arith; four = refl }))
+        (λ e. rw (e, verdictOf) (record { early = omega arith; whole = refl }))
 
 pub verdict-within : (store : Bytes) (c : ℕ) → Within lastLine 1 (verdictAnswer (verdict store c))
 unfolding verdict verdictGiven verdictAnswer statusAnswer refusalAnswer
@@ -318,6 +318,6 @@ verdict-within store c = go (andThen (opened store) (verdictOf c)) (verdict-word
     go (refused r) h = line-within h
     go (accepted bs) h = values-within (bits-within bs)
 
-pub four-words : (store : Bytes) (c : ℕ) → length (verdict store c .words) ≡ 4
+pub every-word : (store : Bytes) (c : ℕ) → length (verdict store c .words) ≡ length verdictWords
 unfolding verdict
-four-words store c = verdict-worded store c .four
+every-word store c = verdict-worded store c .whole

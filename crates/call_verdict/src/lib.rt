@@ -4,7 +4,7 @@ use opening::Opened;
 use store::Store;
 ghost use Rattle.calls.specs.Calls.{Leaves, verdict, unaltered};
 
-// The verdict of a channel: its four words, or refusals 20 to 22, 24 and 10.
+// The verdict of a channel: its five words, or refusals 20 to 22, 24 and 10.
 pub fn verdict(store: &[u8], channel: usize) -> VerdictAnswer
     ensures { λ a. ⌜ Leaves (unaltered (verdict (now (store .entry)) channel) (now (store .entry))) a (now (store .exit)) ⌝ }
 {

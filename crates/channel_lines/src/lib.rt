@@ -23,7 +23,16 @@ fn put_row(out: &mut [u8], at: usize, store: &[u8], rows: u8, grid: &[u8], row: 
     if forms::is_chan(store, rows, row) {
         let words = verdicts::words(store, rows, grid, row);
         let number = row as u16;
-        return put_channel(out, at, number, words[0], words[1], words[2], words[3]);
+        return put_channel(
+            out,
+            at,
+            number,
+            words[0],
+            words[1],
+            words[2],
+            words[3],
+            words[4],
+        );
     }
     at
 }

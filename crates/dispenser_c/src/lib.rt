@@ -42,7 +42,7 @@ pub extern "C" fn dispenser_judge(store: &[u8]) -> u64
     packed_judge::judge(store)
 }
 
-// The verdict of a channel row: its four words.
+// The verdict of a channel row: its five words.
 #[no_mangle]
 pub extern "C" fn dispenser_verdict(store: &[u8], channel: usize) -> u64
     ensures { λ n. ⌜ n ≡ packed wordBits (verdictAnswer (verdict (now (store .entry)) channel)) ⌝ }

@@ -24,7 +24,7 @@ pub fn no_verdict(refusal: Refusal) -> VerdictAnswer
 {
     VerdictAnswer {
         status: VerdictStatus::Refused(refusal),
-        words: [false, false, false, false],
+        words: [false, false, false, false, false],
     }
 }
 

@@ -58,7 +58,7 @@ pub fn judge_rows(store: &[u8], rows: u8) -> JudgeAnswer
     judge_store(store, rows, &mut grid)
 }
 
-// The verdict of a channel: 24 where the number is no chan row, then 10, then the four words.
+// The verdict of a channel: 24 where the number is no chan row, then 10, then the five words.
 pub fn verdict_rows(store: &[u8], rows: u8, channel: usize) -> VerdictAnswer
     requires { ⌜ length (now store) ≡ storeSize ⌝ }
     requires { ⌜ rows ≡ countRows rowLimit (now store) ⌝ }

@@ -4,8 +4,8 @@ ghost use mathlib.Core.Path.{_≡_};
 ghost use Rattle.calls.specs.Layout.{storeSize};
 ghost use Rattle.report.specs.Report.{reportLimit};
 
-// No report is longer: 32 bytes for each row's line and for a first line.
-pub const REPORT_BYTES: usize = 32 * (Store::ROWS + 1);
+// No report is longer: 36 bytes for each row's line and for a first line.
+pub const REPORT_BYTES: usize = 36 * (Store::ROWS + 1);
 
 // The bytes that a store must have.
 pub fn store_size() -> u64

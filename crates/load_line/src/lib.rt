@@ -53,6 +53,7 @@ fn word_code(word: Word) -> u8
         Word::FanOut => 3,
         Word::FanIn => 4,
         Word::Many => 5,
+        Word::OneSync => 6,
     }
 }
 

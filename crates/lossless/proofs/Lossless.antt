@@ -28,7 +28,7 @@ use Rattle.calls.proofs.Exact.{holds-well}
 use Rattle.inference.specs.Inference.{infer}
 use Rattle.inference.specs.Inferred.{InferIs}
 use Rattle.inference.proofs.Inference.{infer-exact}
-use Rattle.bounds.proofs.Bounds.{orderly-few, Within, line-within, values-within, OpensTo, not-opened, decoded, opens-to, load-within, judge-within, verdict-within, four-words}
+use Rattle.bounds.proofs.Bounds.{orderly-few, Within, line-within, values-within, OpensTo, not-opened, decoded, opens-to, load-within, judge-within, verdict-within, every-word}
 use Rattle.store.specs.Document.{storeDocument}
 use Rattle.store.proofs.Document.{document-is}
 use Rattle.report.proofs.Report.{report-short}
@@ -117,8 +117,8 @@ judge-read store = judge-back (judge store) (judge-lossless store)
 pub verdict-lossless : (store : Bytes) (c : ℕ) → Lossless wordBits (verdictAnswer (verdict store c))
 verdict-lossless store c = lossless _ _ wordBits (omega arith) (omega arith) _ (verdict-within store c)
 
-pub verdict-read : (store : Bytes) (c : ℕ) → let a = verdictAnswer (verdict store c) in unpacked wordBits 4 (packed wordBits a) ≡ a
-verdict-read store c = verdict-back (verdict store c) (four-words store c) (verdict-lossless store c)
+pub verdict-read : (store : Bytes) (c : ℕ) → let a = verdictAnswer (verdict store c) in unpacked wordBits (length verdictWords) (packed wordBits a) ≡ a
+verdict-read store c = verdict-back (verdict store c) (length verdictWords) (every-word store c) (verdict-lossless store c)
 
 pub write-lossless : (store out : Bytes) → Lossless numberBits (writeAnswer (write store out .answer))
 write-lossless store out = lossless 0 textLimit numberBits (omega arith) (omega arith) _ (write-within store out)

@@ -115,11 +115,11 @@ unfolding writeAnswer
 write-back (WriteAnswer.Written n) h = values-back numberBits (n ∷ []) h
 write-back (WriteAnswer.Refused r) h = refusal-back numberBits 1 r
 
-pub verdict-back : (a : VerdictAnswer) → length (a .words) ≡ 4 → Lossless wordBits (verdictAnswer a) → unpacked wordBits 4 (packed wordBits (verdictAnswer a)) ≡ verdictAnswer a
+pub verdict-back : (a : VerdictAnswer) (k : ℕ) → length (a .words) ≡ k → Lossless wordBits (verdictAnswer a) → unpacked wordBits k (packed wordBits (verdictAnswer a)) ≡ verdictAnswer a
 unfolding verdictAnswer statusAnswer
-verdict-back a four = go (a .status)
+verdict-back a k e = go (a .status)
   where
     go : (s : VerdictStatus) → Lossless wordBits (statusAnswer s (map yesOrNo (a .words)))
-        → unpacked wordBits 4 (packed wordBits (statusAnswer s (map yesOrNo (a .words)))) ≡ statusAnswer s (map yesOrNo (a .words))
-    go VerdictStatus.Given h = rw (length-map (a .words) yesOrNo ∙ four) at (values-back wordBits (map yesOrNo (a .words)) h)
-    go (VerdictStatus.Refused r) h = refusal-back wordBits 4 r
+        → unpacked wordBits k (packed wordBits (statusAnswer s (map yesOrNo (a .words)))) ≡ statusAnswer s (map yesOrNo (a .words))
+    go VerdictStatus.Given h = rw (length-map (a .words) yesOrNo ∙ e) at (values-back wordBits (map yesOrNo (a .words)) h)
+    go (VerdictStatus.Refused r) h = refusal-back wordBits k r

@@ -18,7 +18,7 @@ packed bits (answered values) = 256 * inBits bits values
 abbrev pub countBits : ℕ
 countBits = 8
 
--- "Verdict answers with four yes or no together": a bit each
+-- "Verdict answers with four yes or no together", five with document 02, No. 4: a bit each
 abbrev pub wordBits : ℕ
 wordBits = 1
 

@@ -57,5 +57,8 @@ pub fn read_word(s: &[u8], at: usize) -> WordRead
     if let Next::At(p) = read_text::expect(s, at, b"many") {
         return WordRead::Found(Word::Many, p);
     }
+    if let Next::At(p) = read_text::expect(s, at, b"one-sync") {
+        return WordRead::Found(Word::OneSync, p);
+    }
     WordRead::Missing
 }

@@ -31,7 +31,7 @@ use Rattle.calls.specs.declared.VerdictAnswer.{VerdictAnswer}
 use Rattle.calls.specs.Layout.{storeSize, counting, encode, decode}
 use Rattle.calls.specs.Judging.{verdictWords, wordHolds, reaches, failingRow, failingClaim, after10, judgeClaims, judgeDocument, verdictDocument}
 use Rattle.calls.specs.Calls.{opened, counts, refilled, loaded, load, judgeAnswered, andThen, judge, verdictOf, verdictGiven, verdict}
-use Rattle.report.specs.Report.{refusedText, acceptedText, yesNoText, moreWordsText, wordsText, channelText, channelLine, channelLines, judgedText, checkedText, report, reportLimit}
+use Rattle.report.specs.Report.{refusedText, acceptedText, yesNoText, moreWordsText, wordsText, channelText, channelLine, channelLines, judgedText, checkedText, report, lineLimit, reportLimit}
 use Rattle.calls.proofs.Codec.{decode-encode}
 use Rattle.calls.proofs.Codec.Sparse.{either}
 use Rattle.calls.proofs.Canonical.Rows.{count-rows-le, rows-count}
@@ -39,11 +39,11 @@ use Rattle.calls.proofs.Calls.{opened-loaded, judge-opened}
 
 -- ---- how long lines are
 
-pub refused-short : (r : Refusal) → length (refusedText r) ≤ 32
+pub refused-short : (r : Refusal) → length (refusedText r) ≤ lineLimit
 unfolding refusedText ascii
 refused-short r = simp length-append (omega (arith, argument-length (number (r .reason)), argument-length (r .line)))
 
-accepted-short : (n : ℕ) → length (acceptedText n) ≤ 32
+accepted-short : (n : ℕ) → length (acceptedText n) ≤ lineLimit
 unfolding acceptedText ascii
 accepted-short n = simp length-append (omega (arith, argument-length n))
 
@@ -52,19 +52,20 @@ unfolding yesNoText ascii
 yes-no-short true = omega arith
 yes-no-short false = omega arith
 
-words-short : (v w x y : Bool) → length (wordsText (v ∷ w ∷ x ∷ y ∷ [])) ≤ 17
-unfolding wordsText moreWordsText ascii
-words-short v w x y = simp length-append (omega (arith, yes-no-short v, yes-no-short w, yes-no-short x, yes-no-short y))
+more-words-short : (ws : List Bool) → length (moreWordsText ws) ≤ 4 * length ws + 1
+unfolding moreWordsText ascii
+more-words-short [] = omega arith
+more-words-short (w ∷ ws) = simp length-append (omega (arith, yes-no-short w, more-words-short ws))
 
-channel-short : (c : ℕ) (v w x y : Bool) → c < 1000 → length (channelText c (v ∷ w ∷ x ∷ y ∷ [])) ≤ 32
-unfolding channelText ascii
-channel-short c v w x y h = simp length-append (omega (arith, argument-short c h, words-short v w x y))
+channel-short : (c : ℕ) (w : Bool) (ws : List Bool) → c < 1000 → length (channelText c (w ∷ ws)) ≤ 4 * length ws + 20
+unfolding channelText wordsText ascii
+channel-short c w ws h = simp length-append (omega (arith, argument-short c h, yes-no-short w, more-words-short ws))
 
-line-short : (d : Document) (c : ℕ) → c < 1000 → length (channelLine d c) ≤ 32
+line-short : (d : Document) (c : ℕ) → c < 1000 → length (channelLine d c) ≤ lineLimit
 unfolding channelLine
-line-short d c h = pick-length 32 (chanRow (d .rows) c) (channelText c (map (wordHolds d (reaches d) c) verdictWords)) [] (channel-short c _ _ _ _ h) (omega arith)
+line-short d c h = pick-length lineLimit (chanRow (d .rows) c) (channelText c (map (wordHolds d (reaches d) c) verdictWords)) [] (channel-short c _ _ h) (omega arith)
 
-lines-short : (f : ℕ → Bytes) (k c : ℕ) → ((i : ℕ) → i < c + k → length (f i) ≤ 32) → length (collect f (counting k c λ i. i)) ≤ 32 * k
+lines-short : (f : ℕ → Bytes) (k c : ℕ) → ((i : ℕ) → i < c + k → length (f i) ≤ lineLimit) → length (collect f (counting k c λ i. i)) ≤ lineLimit * k
 unfolding collect counting
 lines-short f zero c h = omega arith
 lines-short f (suc k) c h = simp length-append (omega (arith, h c (omega arith), lines-short f k (suc c) (λ i l. h i (omega arith))))

@@ -70,9 +70,13 @@ report file = checkedText (check file)
 
 -- ---- the call
 
--- no report is longer (proofs/Report): a first line, and one for each row, of 32 bytes each
+-- no line is longer (proofs/Report): `[channel 159 [yes yes yes yes yes]]` and byte 10
+abbrev pub lineLimit : ℕ
+lineLimit = 36
+
+-- no report is longer: a first line, and one for each row
 abbrev pub reportLimit : ℕ
-reportLimit = 32 * suc rowLimit
+reportLimit = lineLimit * suc rowLimit
 
 -- the answer, and the lent bytes afterwards
 pub record Reporting : Type 0 where

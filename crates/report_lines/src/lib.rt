@@ -50,15 +50,17 @@ fn put_words(
     onetoone: bool,
     fanout: bool,
     fanin: bool,
+    onesync: bool,
 ) -> usize
-    requires { ⌜ Room at (wordsText (oneshot ∷ onetoone ∷ fanout ∷ fanin ∷ [])) ⌝ }
-    ensures { λ r. ⌜ Wrote (now (out .entry)) at (wordsText (oneshot ∷ onetoone ∷ fanout ∷ fanin ∷ [])) r (now (out .exit)) ⌝ }
+    requires { ⌜ Room at (wordsText (oneshot ∷ onetoone ∷ fanout ∷ fanin ∷ onesync ∷ [])) ⌝ }
+    ensures { λ r. ⌜ Wrote (now (out .entry)) at (wordsText (oneshot ∷ onetoone ∷ fanout ∷ fanin ∷ onesync ∷ [])) r (now (out .exit)) ⌝ }
 {
     let p = put_yes_no(out, at, 91, oneshot);
     let q = put_yes_no(out, p, 32, onetoone);
     let r = put_yes_no(out, q, 32, fanout);
     let s = put_yes_no(out, r, 32, fanin);
-    write_text::put_byte(out, s, 93)
+    let t = put_yes_no(out, s, 32, onesync);
+    write_text::put_byte(out, t, 93)
 }
 
 // Writes `[channel R [yes no ..]]`.
@@ -70,11 +72,12 @@ pub fn put_channel(
     onetoone: bool,
     fanout: bool,
     fanin: bool,
+    onesync: bool,
 ) -> usize
-    requires { ⌜ Room at (channelText row (oneshot ∷ onetoone ∷ fanout ∷ fanin ∷ [])) ⌝ }
-    ensures { λ r. ⌜ Wrote (now (out .entry)) at (channelText row (oneshot ∷ onetoone ∷ fanout ∷ fanin ∷ [])) r (now (out .exit)) ⌝ }
+    requires { ⌜ Room at (channelText row (oneshot ∷ onetoone ∷ fanout ∷ fanin ∷ onesync ∷ [])) ⌝ }
+    ensures { λ r. ⌜ Wrote (now (out .entry)) at (channelText row (oneshot ∷ onetoone ∷ fanout ∷ fanin ∷ onesync ∷ [])) r (now (out .exit)) ⌝ }
 {
     let p = write_text::put_head(out, at, b"[channel", row);
-    let q = put_words(out, p, oneshot, onetoone, fanout, fanin);
+    let q = put_words(out, p, oneshot, onetoone, fanout, fanin, onesync);
     write_text::put_word(out, q, b"]\n")
 }

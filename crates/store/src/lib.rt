@@ -32,7 +32,7 @@ impl Store {
 
     pub const SIZE: usize = Self::CLAIMS + Self::ROWS;
     // The codes of claim words are below this.
-    pub const CODES: u8 = 6;
+    pub const CODES: u8 = 7;
 
     pub fn empty() -> Store
         ensures { λ s. ⌜ s .bytes ≡ replicate storeSize 0 ⌝ }

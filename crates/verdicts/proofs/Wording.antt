@@ -10,7 +10,7 @@ use lib.ListN.{length}
 use lib.Dec.{eqb}
 use Rattle.program.specs.declared.Facts.{Facts}
 use Rattle.program.specs.declared.Word.{Word}
-use Rattle.program.specs.declared.Word.the-variants.{OneShot, OneToOne, FanOut, FanIn}
+use Rattle.program.specs.declared.Word.the-variants.{OneShot, OneToOne, FanOut, FanIn, OneSync}
 use Rattle.program.specs.Maybe.{has, _>>=_}
 use Rattle.program.specs.Flow.{Table}
 use Rattle.program.specs.Program.{Program, bindAt, bindOf, formAt, syncAt}
@@ -81,6 +81,7 @@ module _ (p : Program) (flow : Table) (c : ℕ) {f : Facts} (e : f ≡ factsIn p
   unfolding wordIn verdict factsIn
   word-is word q = q ∙ rw e
 
-  pub words-are : {oneShot oneToOne fanOut fanIn : Bool} → oneShot ≡ says OneShot f → oneToOne ≡ says OneToOne f → fanOut ≡ says FanOut f → fanIn ≡ says FanIn f
-      → oneShot ∷ oneToOne ∷ fanOut ∷ fanIn ∷ [] ≡ map (wordIn p flow c) verdictWords
-  words-are h i j k = rw (word-is OneShot h, word-is OneToOne i, word-is FanOut j, word-is FanIn k)
+  pub words-are : {oneShot oneToOne fanOut fanIn oneSync : Bool}
+      → oneShot ≡ says OneShot f → oneToOne ≡ says OneToOne f → fanOut ≡ says FanOut f → fanIn ≡ says FanIn f → oneSync ≡ says OneSync f
+      → oneShot ∷ oneToOne ∷ fanOut ∷ fanIn ∷ oneSync ∷ [] ≡ map (wordIn p flow c) verdictWords
+  words-are h i j k l = rw (word-is OneShot h, word-is OneToOne i, word-is FanOut j, word-is FanIn k, word-is OneSync l)

@@ -79,8 +79,8 @@ pub fn word_holds(store: &[u8], rows: u8, grid: &[u8], c: u8, word: Word) -> boo
     says(word, found)
 }
 
-// The four words of channel row c, in the order one-shot, one-to-one, fan-out, fan-in.
-pub fn words(store: &[u8], rows: u8, grid: &[u8], c: u8) -> [bool; 4]
+// The five words of channel row c, in the order one-shot, one-to-one, fan-out, fan-in, one-sync.
+pub fn words(store: &[u8], rows: u8, grid: &[u8], c: u8) -> [bool; 5]
     requires { ⌜ (storeSize ≤ length (now store)) × (rows ≤ rowLimit) × (gridSize ≤ length (now grid)) ⌝ }
     requires { ⌜ Shows (reach (storeProgram rows (now store)) (storeFlow (now store))) (now grid) ⌝ }
     ensures { λ w. ⌜ w ≡ map (wordIn (storeProgram rows (now (store .entry))) (storeFlow (now (store .entry))) c) verdictWords ⌝ }
@@ -90,5 +90,6 @@ pub fn words(store: &[u8], rows: u8, grid: &[u8], c: u8) -> [bool; 4]
     let one_to_one = says(Word::OneToOne, found);
     let fan_out = says(Word::FanOut, found);
     let fan_in = says(Word::FanIn, found);
-    [one_shot, one_to_one, fan_out, fan_in]
+    let one_sync = says(Word::OneSync, found);
+    [one_shot, one_to_one, fan_out, fan_in, one_sync]
 }

@@ -19,6 +19,7 @@ fn put_claim_word(out: &mut [u8], at: usize, code: u8) -> usize
         2 => write_text::put_word(out, at, b"one-to-one"),
         3 => write_text::put_word(out, at, b"fan-out"),
         4 => write_text::put_word(out, at, b"fan-in"),
+        6 => write_text::put_word(out, at, b"one-sync"),
         _ => write_text::put_word(out, at, b"many"),
     }
 }

@@ -6,7 +6,7 @@ use mathlib.Core.List.{List, [], _∷_, map}
 use mathlib.Core.Path.{_≡_, refl, ap, _∙_}
 use mathlib.Core.Option.{Option, none, some}
 use lib.Dec.{eqb, lit<}
-use borrow.Author.Tests.{eqb-true}
+use borrow.Author.Tests.{eqb-true, ne-eqb}
 use Rattle.program.specs.declared.Word.{Word}
 use Rattle.program.specs.declared.Word.the-variants.{OneShot, OneToOne, FanOut, FanIn, Many, OneSync}
 use Rattle.program.specs.Test.{pick}
@@ -38,6 +38,11 @@ claim-of-word FanOut c = refl
 claim-of-word FanIn c = refl
 claim-of-word Many c = refl
 claim-of-word OneSync c = refl
+
+-- every code but five is that of many
+pub word-other : (k : ℕ) → (k ≡ 1 → ⊥) → (k ≡ 2 → ⊥) → (k ≡ 3 → ⊥) → (k ≡ 4 → ⊥) → (k ≡ 6 → ⊥) → wordOf k ≡ Many
+unfolding wordOf
+word-other k a b c d e = rw (ne-eqb k 1 a, ne-eqb k 2 b, ne-eqb k 3 c, ne-eqb k 4 d, ne-eqb k 6 e)
 
 word-range : (w : Word) → Byte (wordCode w)
 unfolding wordCode

@@ -1,6 +1,7 @@
 -- `word_of` meets its contract: in each arm the word of the code.
 use Rattle.calls.specs.Layout.{wordOf}
-use Rattle.claim_words.proofs.Codes.{code-other}
+use mathlib.Core.Path.{sym}
+use Rattle.calls.proofs.Codec.Claims.{word-other}
 use Rattle.claim_words.proofs.word_of.Statement.{statement}
 use Rattle.claim_words.proofs.word_of.Tie as tie
 
@@ -21,7 +22,11 @@ unfolding wordOf
 returns-4 c = rw (c .match .keys4)
 
 returns-5 : tie.Need-returns-5
-returns-5 c = code-other _ (c .match .rest .0 .0 .0 .1) (c .match .rest .0 .0 .1) (c .match .rest .0 .1) (c .match .rest .1)
+unfolding wordOf
+returns-5 c = rw (c .match .keys5)
+
+returns-6 : tie.Need-returns-6
+returns-6 c = sym (word-other _ (c .match .rest .0 .0 .0 .0 .1) (c .match .rest .0 .0 .0 .1) (c .match .rest .0 .0 .1) (c .match .rest .0 .1) (c .match .rest .1))
 
 pub word-of-spec : {M : Type 1} → statement M
-word-of-spec = tie.close (tie.spec returns returns-2 returns-3 returns-4 returns-5)
+word-of-spec = tie.close (tie.spec returns returns-2 returns-3 returns-4 returns-5 returns-6)

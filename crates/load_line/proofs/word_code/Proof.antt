@@ -1,6 +1,6 @@
 -- `word_code` meets its contract: a code for each word.
-use borrow.Author.Needs.{needs}
 use Rattle.calls.specs.Layout.{wordCode}
+use borrow.Author.Needs.{needs}
 use Rattle.load_line.proofs.word_code.Statement.{statement}
 use Rattle.load_line.proofs.word_code.Tie as tie
 
@@ -18,6 +18,9 @@ enum-told-4 c = search needs
 
 enum-told-5 : tie.Need-enum-told-5
 enum-told-5 c = search needs
+
+enum-told-6 : tie.Need-enum-told-6
+enum-told-6 c = search needs
 
 returns : tie.Need-returns
 unfolding wordCode
@@ -39,6 +42,10 @@ returns-5 : tie.Need-returns-5
 unfolding wordCode
 returns-5 c = rw (c .enum-told5 .given .1)
 
+returns-6 : tie.Need-returns-6
+unfolding wordCode
+returns-6 c = rw (c .enum-told6 .given .1)
+
 pub word-code-spec : {M : Type 1} → statement M
 word-code-spec =
     tie.close
@@ -48,8 +55,10 @@ word-code-spec =
     enum-told-3
     enum-told-4
     enum-told-5
+    enum-told-6
     returns
     returns-2
     returns-3
     returns-4
-    returns-5)
+    returns-5
+    returns-6)

@@ -1,9 +1,9 @@
--- The four words are 0 or 1 each; the sum of the code is that of the list's four places.
-use borrow.Author.Needs.{needs}
+-- The five words are 0 or 1 each; the sum of the code is that of the list's five places.
 use native.Mathlib.Omega.{arith}
 use Rattle.calls.specs.Answers.{refusalAnswer, statusAnswer, verdictAnswer}
 use Rattle.packing.specs.Packing.{packed}
-use Rattle.pack_words.proofs.Words.{bits-low, four-bits}
+use Rattle.pack_words.proofs.Words.{bits-low, five-bits}
+use borrow.Author.Needs.{needs}
 use Rattle.pack_words.proofs.pack_verdict.Statement.{statement}
 use Rattle.pack_words.proofs.pack_verdict.Tie as tie
 
@@ -30,6 +30,12 @@ array-read-fan-in c = search needs
 
 cast-fan-in : tie.Need-cast-fan-in
 cast-fan-in c = search needs
+
+array-read-one-sync : tie.Need-array-read-one-sync
+array-read-one-sync c = search needs
+
+cast-one-sync : tie.Need-cast-one-sync
+cast-one-sync c = search needs
 
 enum-known-status : tie.Need-enum-known-status
 enum-known-status c = search needs
@@ -62,13 +68,19 @@ add-result-3 c = omega (arith, bits-low (c .before .before .before .args .answer
 mul-result-4 : tie.Need-mul-result-4
 mul-result-4 c = omega (arith, bits-low (c .before .before .before .args .answer .words))
 
+add-result-4 : tie.Need-add-result-4
+add-result-4 c = omega (arith, bits-low (c .before .before .before .args .answer .words))
+
+mul-result-5 : tie.Need-mul-result-5
+mul-result-5 c = omega (arith, bits-low (c .before .before .before .args .answer .words))
+
 returns : tie.Need-returns
 unfolding verdictAnswer statusAnswer refusalAnswer packed
 returns c = rw (c .before .before .status .given .1) (c .pack-refusal .ensures)
 
 returns-2 : tie.Need-returns-2
 unfolding verdictAnswer statusAnswer packed
-returns-2 c = rw (c .enum-told .given .1) (omega (arith, four-bits (c .before .before .before .args .answer .words) (c .before .before .before .pre .1)))
+returns-2 c = rw (c .enum-told .given .1) (omega (arith, five-bits (c .before .before .before .args .answer .words) (c .before .before .before .pre .1)))
 
 pub pack-verdict-spec : {M : Type 1} → statement M
 pack-verdict-spec =
@@ -82,6 +94,8 @@ pack-verdict-spec =
     cast-fan-out
     array-read-fan-in
     cast-fan-in
+    array-read-one-sync
+    cast-one-sync
     enum-known-status
     pack-refusal-requires
     enum-told
@@ -92,5 +106,7 @@ pack-verdict-spec =
     mul-result-3
     add-result-3
     mul-result-4
+    add-result-4
+    mul-result-5
     returns
     returns-2)

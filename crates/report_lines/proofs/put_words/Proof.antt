@@ -36,16 +36,28 @@ put-yes-no-requires-4 c κs =
     let start = at-put-yes-no .before .before .before in
     room-first _ _ (room-then _ (at-put-yes-no3 .put-yes-no3 .ensures) (room-then _ (at-put-yes-no2 .put-yes-no2 .ensures) (room-then _ (at-put-yes-no .put-yes-no .ensures) (start .pre))))
 
-put-byte-requires : tie.Need-put-byte-requires
+put-yes-no-requires-5 : tie.Need-put-yes-no-requires-5
 unfolding wordsText moreWordsText ascii
-put-byte-requires c κs =
+put-yes-no-requires-5 c κs =
     let at-put-yes-no4 = c .before .before .before in
     let at-put-yes-no3 = at-put-yes-no4 .before .before .before .before in
     let at-put-yes-no2 = at-put-yes-no3 .before .before .before .before in
     let at-put-yes-no = at-put-yes-no2 .before .before .before .before in
     let start = at-put-yes-no .before .before .before in
-    room-then _ (at-put-yes-no4 .put-yes-no4 .ensures) (room-then _ (at-put-yes-no3 .put-yes-no3 .ensures)
-    (room-then _ (at-put-yes-no2 .put-yes-no2 .ensures) (room-then _ (at-put-yes-no .put-yes-no .ensures) (start .pre))))
+    room-first _ _ (room-then _ (at-put-yes-no4 .put-yes-no4 .ensures) (room-then _ (at-put-yes-no3 .put-yes-no3 .ensures)
+    (room-then _ (at-put-yes-no2 .put-yes-no2 .ensures) (room-then _ (at-put-yes-no .put-yes-no .ensures) (start .pre)))))
+
+put-byte-requires : tie.Need-put-byte-requires
+unfolding wordsText moreWordsText ascii
+put-byte-requires c κs =
+    let at-put-yes-no5 = c .before .before .before in
+    let at-put-yes-no4 = at-put-yes-no5 .before .before .before .before in
+    let at-put-yes-no3 = at-put-yes-no4 .before .before .before .before in
+    let at-put-yes-no2 = at-put-yes-no3 .before .before .before .before in
+    let at-put-yes-no = at-put-yes-no2 .before .before .before .before in
+    let start = at-put-yes-no .before .before .before in
+    room-then _ (at-put-yes-no5 .put-yes-no5 .ensures) (room-then _ (at-put-yes-no4 .put-yes-no4 .ensures) (room-then _ (at-put-yes-no3 .put-yes-no3 .ensures)
+    (room-then _ (at-put-yes-no2 .put-yes-no2 .ensures) (room-then _ (at-put-yes-no .put-yes-no .ensures) (start .pre)))))
 
 same-length : tie.Need-same-length
 same-length c = search needs
@@ -54,12 +66,13 @@ returns : tie.Need-returns
 unfolding wordsText moreWordsText ascii
 returns c =
     let at-put-byte = c .before .before in
-    let at-put-yes-no4 = at-put-byte .before .before .before .before in
+    let at-put-yes-no5 = at-put-byte .before .before .before .before in
+    let at-put-yes-no4 = at-put-yes-no5 .before .before .before .before in
     let at-put-yes-no3 = at-put-yes-no4 .before .before .before .before in
     let at-put-yes-no2 = at-put-yes-no3 .before .before .before .before in
     let at-put-yes-no = at-put-yes-no2 .before .before .before .before in
-    then (at-put-yes-no .put-yes-no .ensures) (then (at-put-yes-no2 .put-yes-no2 .ensures)
-    (then (at-put-yes-no3 .put-yes-no3 .ensures) (then (at-put-yes-no4 .put-yes-no4 .ensures) (at-put-byte .put-byte .ensures))))
+    then (at-put-yes-no .put-yes-no .ensures) (then (at-put-yes-no2 .put-yes-no2 .ensures) (then (at-put-yes-no3 .put-yes-no3 .ensures)
+    (then (at-put-yes-no4 .put-yes-no4 .ensures) (then (at-put-yes-no5 .put-yes-no5 .ensures) (at-put-byte .put-byte .ensures)))))
 
 pub put-words-spec : {M : Type 1} → statement M
 put-words-spec =
@@ -69,6 +82,7 @@ put-words-spec =
     put-yes-no-requires-2
     put-yes-no-requires-3
     put-yes-no-requires-4
+    put-yes-no-requires-5
     put-byte-requires
     same-length
     returns)

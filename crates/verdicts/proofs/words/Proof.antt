@@ -19,10 +19,14 @@ says-requires-3 c κs = search needs
 says-requires-4 : tie.Need-says-requires-4
 says-requires-4 c κs = search needs
 
+says-requires-5 : tie.Need-says-requires-5
+says-requires-5 c κs = search needs
+
 returns : tie.Need-returns
 returns c =
-    let first = c .before .before .before in
-    words-are _ _ _ (first .before .channel-facts .ensures) (first .says .ensures) (c .before .before .says2 .ensures) (c .before .says3 .ensures) (c .says4 .ensures)
+    let second = c .before .before .before in
+    let first = second .before in
+    words-are _ _ _ (first .before .channel-facts .ensures) (first .says .ensures) (second .says2 .ensures) (c .before .before .says3 .ensures) (c .before .says4 .ensures) (c .says5 .ensures)
 
 pub words-spec : {M : Type 1} → statement M
 words-spec =
@@ -33,4 +37,5 @@ words-spec =
     says-requires-2
     says-requires-3
     says-requires-4
+    says-requires-5
     returns)

@@ -1,9 +1,9 @@
 -- In each arm the word of the code computes.
-use borrow.Author.Needs.{needs}
-use borrow.Author.Tests.{ne-eqb}
 use Rattle.format.specs.Print.{wordText}
 use Rattle.format.specs.Text.{ascii}
 use Rattle.calls.specs.Layout.{wordOf}
+use Rattle.calls.proofs.Codec.Claims.{word-other}
+use borrow.Author.Needs.{needs}
 use Rattle.write_claims.proofs.put_claim_word.Statement.{statement}
 use Rattle.write_claims.proofs.put_claim_word.Tie as tie
 
@@ -40,11 +40,16 @@ slice-aggregate-put-word-5 c = search needs
 
 put-word-requires-5 : tie.Need-put-word-requires-5
 unfolding ascii wordText wordOf
-put-word-requires-5 c κs =
-    let at-match = c .before .before in
-    let start = at-match .before .before in
-    simp (ne-eqb _ _ (at-match .match .rest .0 .0 .0 .1), ne-eqb _ _ (at-match .match .rest .0 .0 .1), ne-eqb _ _ (at-match .match .rest .0 .1), ne-eqb _ _ (at-match .match .rest .1)) at
-    (start .pre)
+put-word-requires-5 c κs = rw (c .before .before .match .keys5) at (c .before .before .before .before .pre)
+
+slice-aggregate-put-word-6 : tie.Need-slice-aggregate-put-word-6
+slice-aggregate-put-word-6 c = search needs
+
+put-word-requires-6 : tie.Need-put-word-requires-6
+unfolding ascii wordText wordOf
+put-word-requires-6 c κs =
+    let other = c .before .before .match .rest in
+    rw (word-other _ (other .0 .0 .0 .0 .1) (other .0 .0 .0 .1) (other .0 .0 .1) (other .0 .1) (other .1)) at (c .before .before .before .before .pre)
 
 same-length : tie.Need-same-length
 same-length c = search needs
@@ -79,11 +84,16 @@ same-length-5 c = search needs
 
 returns-5 : tie.Need-returns-5
 unfolding ascii wordText wordOf
-returns-5 c =
-    let at-put-word5 = c .before .before in
-    let at-match = at-put-word5 .before .before .before in
-    simp (ne-eqb _ _ (at-match .match .rest .0 .0 .0 .1), ne-eqb _ _ (at-match .match .rest .0 .0 .1), ne-eqb _ _ (at-match .match .rest .0 .1), ne-eqb _ _ (at-match .match .rest .1))
-    (at-put-word5 .put-word5 .ensures)
+returns-5 c = rw (c .before .before .before .before .before .match .keys5) (c .before .before .put-word5 .ensures)
+
+same-length-6 : tie.Need-same-length-6
+same-length-6 c = search needs
+
+returns-6 : tie.Need-returns-6
+unfolding ascii wordText wordOf
+returns-6 c =
+    let other = c .before .before .before .before .before .match .rest in
+    rw (word-other _ (other .0 .0 .0 .0 .1) (other .0 .0 .0 .1) (other .0 .0 .1) (other .0 .1) (other .1)) (c .before .before .put-word6 .ensures)
 
 pub put-claim-word-spec : {M : Type 1} → statement M
 put-claim-word-spec =
@@ -99,6 +109,8 @@ put-claim-word-spec =
     put-word-requires-4
     slice-aggregate-put-word-5
     put-word-requires-5
+    slice-aggregate-put-word-6
+    put-word-requires-6
     same-length
     returns
     same-length-2
@@ -108,4 +120,6 @@ put-claim-word-spec =
     same-length-4
     returns-4
     same-length-5
-    returns-5)
+    returns-5
+    same-length-6
+    returns-6)
