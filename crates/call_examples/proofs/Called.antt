@@ -60,7 +60,7 @@ onA size =
 
 -- A has 370 bytes
 calls : onA 370 ≡ record {
-  channel1 = answered (1 ∷ 1 ∷ 1 ∷ 1 ∷ []);
+  channel1 = answered (1 ∷ 1 ∷ 1 ∷ 1 ∷ 1 ∷ []);
   row0 = turnedBack 24 0;
   written = answered (370 ∷ []);
   bytes = file linesA ++ (9 ∷ []);
@@ -78,8 +78,8 @@ unfolding tried variant Report.report Report.checkedText Report.judgedText Repor
     Report.yesNoText Report.acceptedText Report.refusedText Text.digits Text.place Text.argument
 printed text = Report.report text
 
--- of A, as document 01 lists it, and of A without flow 4
+-- of A, as document 01 lists it and with the fifth word of document 02, and of A without flow 4
 listings : map printed (file linesA ∷ variant 15 [] ∷ [])
-    ≡ (file ("[accepted 1]" ∷ "[channel 1 [yes yes yes yes]]" ∷ []) ∷ file ("[refused 10 6]" ∷ []) ∷ [])
+    ≡ (file ("[accepted 1]" ∷ "[channel 1 [yes yes yes yes yes]]" ∷ []) ∷ file ("[refused 10 6]" ∷ []) ∷ [])
 unfolding printed
 listings = refl

@@ -21,18 +21,9 @@ fn put_row(out: &mut [u8], at: usize, store: &[u8], rows: u8, grid: &[u8], row: 
     ensures { λ r. ⌜ Wrote (now (out .entry)) at (channelLine (decode (now (store .entry))) row) r (now (out .exit)) ⌝ }
 {
     if forms::is_chan(store, rows, row) {
-        let words = verdicts::words(store, rows, grid, row);
+        let told = verdicts::words(store, rows, grid, row);
         let number = row as u16;
-        return put_channel(
-            out,
-            at,
-            number,
-            words[0],
-            words[1],
-            words[2],
-            words[3],
-            words[4],
-        );
+        return put_channel(out, at, number, told[0], told[1], told[2], told[3], told[4]);
     }
     at
 }

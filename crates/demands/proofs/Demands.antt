@@ -1,19 +1,20 @@
 -- The demands, and what the requests of document 02 promise, as theorems about the definitions of the calls, in document 01's numbers and values (`Answers` of crate calls).
--- Their proofs stand in `Calls`, `Exact` and `Numbers` of crate calls and in crates least, inference, machine and run_calls; here is what they say.
+-- Their proofs stand in `Calls`, `Exact` and `Numbers` of crate calls, in `Sound/Histories` of crate program and in crates least, inference, machine and run_calls; here is what they say.
 use Prim.Native.Nat.{ℕ, _≤_, _<_}
 use mathlib.Core.Bool.{false, So}
 use mathlib.Core.List.{List, [], _∷_, _++_}
 use mathlib.Core.Option.{some}
-use mathlib.Core.Path.{_≡_}
+use mathlib.Core.Path.{_≡_, subst}
 use mathlib.Core.Logic.{_↔_, _≢_}
 use lib.ListN.{length, take, drop, replicate}
 use Rattle.program.specs.Each.{Member}
 use Rattle.program.specs.declared.Word.{Word}
+use Rattle.program.specs.declared.Word.the-variants.{OneSync}
 use Rattle.program.specs.Program.{Program, chanAt}
 use Rattle.program.specs.Flow.{Table}
 use Rattle.program.specs.FlowRule.{KeepsAll}
 use Rattle.program.specs.Run.{Path, made, Step, run}
-use Rattle.program.specs.History.{HistoryFits}
+use Rattle.program.specs.History.{AtMostOne, AtSend, AtReceive, HistoryFits}
 use Rattle.format.specs.Limits.{byteLimit}
 use Rattle.format.specs.Text.{Bytes}
 use Rattle.format.specs.Refusals.{accepted}
@@ -26,6 +27,7 @@ use Rattle.calls.specs.Layout.{storeSize, encode}
 use Rattle.calls.specs.Judging.{wordHolds, WordHolds, reaches}
 use Rattle.calls.specs.Calls.{load, judge, verdict, write, unsound}
 use Rattle.calls.specs.Exact.{StoreHolds, RulesHold, ClaimsHold, JudgeIs, VerdictIs}
+use Rattle.program.proofs.Sound.Histories as histories
 use Rattle.least.specs.Least.{Within, smallestFlow, smallestComm}
 use Rattle.least.proofs.Least as least
 use Rattle.inference.specs.Inference.{infer}
@@ -93,7 +95,7 @@ judge-loaded = numbers.judge-loaded
 pub judge-exact : (store : Bytes) → JudgeIs store (judgeAnswer (judge store))
 judge-exact = exact.judge-answers
 
--- all answers of verdict: 20, 21, 22, 24, 10 with the smallest row, or the four words, each exact over all pairs of walks that can share a run
+-- all answers of verdict: 20, 21, 22, 24, 10 with the smallest row, or the five words, each exact over all pairs of walks that can share a run
 pub verdict-exact : (store : Bytes) (c : ℕ) → VerdictIs store c (verdictAnswer (verdict store c))
 verdict-exact = exact.verdict-exact
 
@@ -153,3 +155,20 @@ pub watched-histories : (file store : Bytes) (ns : List ℕ) (n : ℕ) → loadA
     × ((k : Claim) → Member k (d .claims) → (name : ℕ) → chanAt (d .rows) (k .channel) ≡ some name
     → (os : List Order) (s : Shown (d .rows) os) (maker : Path) → HistoryFits (d .rows) (run (d .rows) (s .steps)) (made maker name) (k .word))
 watched-histories file store ns n e f = let (d, text, well, fits) = sound file store ns n e f in (d, text, well, λ k m name c os s maker. fits k m name c (s .steps) maker)
+
+-- ---- request No. 4, "One-sync"
+
+-- "For an instance so claimed in an accepted file, a history holds at most one path at sends and at most one at receives"
+pub one-sync : (file store : Bytes) (ns : List ℕ) (n : ℕ) → loadAnswer (load file store .answer) ≡ answered ns → judgeAnswer (judge (load file store .bytes)) ≡ answered (n ∷ [])
+    → (d : Document) × (file ≡ documentText d) × So (wellFormed d)
+    × ((k : Claim) → Member k (d .claims) → k .word ≡ OneSync → (name : ℕ) → chanAt (d .rows) (k .channel) ≡ some name
+    → (steps : List Step) (maker : Path) → let pool = run (d .rows) steps in
+    AtMostOne (AtSend (d .rows) pool (made maker name)) × AtMostOne (AtReceive (d .rows) pool (made maker name)))
+one-sync file store ns n e f =
+    let (d, text, well, fits) = sound file store ns n e f in (
+      d,
+      text,
+      well,
+      λ k m w name c steps maker.
+          histories.one-sync-iff (d .rows) (run (d .rows) steps) (made maker name) .0 (subst (HistoryFits (d .rows) (run (d .rows) steps) (made maker name)) w (fits k m name c steps maker)),
+    )

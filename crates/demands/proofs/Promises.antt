@@ -10,7 +10,8 @@ use lib.ListN.{length, take, drop, replicate}
 use Rattle.program.specs.Each.{Member, nil, _&_}
 use Rattle.program.specs.Program.{Program, chanAt}
 use Rattle.program.specs.Run.{Path, made, Step, run}
-use Rattle.program.specs.History.{HistoryFits}
+use Rattle.program.specs.declared.Word.the-variants.{OneSync}
+use Rattle.program.specs.History.{AtMostOne, AtSend, AtReceive, HistoryFits}
 use Rattle.format.specs.Limits.{byteLimit}
 use Rattle.format.specs.Text.{Bytes}
 use Rattle.format.specs.Document.{Claim, Document}
@@ -79,6 +80,14 @@ module _ (file store : Bytes) {answer : LoadAnswer} {left : Bytes} (loads : Leav
         × ((k : Claim) → Member k (d .claims) → (name : ℕ) → chanAt (d .rows) (k .channel) ≡ some name
         → (steps : List Step) (maker : Path) → HistoryFits (d .rows) (run (d .rows) steps) (made maker name) (k .word))
     sound ns n e f = definitions.sound file store ns n (same ∙ e) (same-judged ∙ f)
+
+    -- Request No. 4: "For an instance so claimed in an accepted file, a history holds at most one path at sends and at most one at receives"
+    pub one-sync : (ns : List ℕ) (n : ℕ) → loadAnswer answer ≡ answered ns → judgeAnswer judged ≡ answered (n ∷ [])
+        → (d : Document) × (file ≡ documentText d) × So (wellFormed d)
+        × ((k : Claim) → Member k (d .claims) → k .word ≡ OneSync → (name : ℕ) → chanAt (d .rows) (k .channel) ≡ some name
+        → (steps : List Step) (maker : Path) → let pool = run (d .rows) steps in
+        AtMostOne (AtSend (d .rows) pool (made maker name)) × AtMostOne (AtReceive (d .rows) pool (made maker name)))
+    one-sync ns n e f = definitions.one-sync file store ns n (same ∙ e) (same-judged ∙ f)
 
 -- a write: what it leaves where it is refused; and loading what it wrote gives back the store
 module _ (store out : Bytes) {answer : WriteAnswer} {left : Bytes} (writes : Leaves (write store out) answer left) where

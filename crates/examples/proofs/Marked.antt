@@ -1,4 +1,4 @@
--- The marked examples of document 01, as one list with one proof, over the definitions of the calls.
+-- The marked examples of document 01, as one list with one proof, over the definitions of the calls; and two of document 02, No. 4.
 use Prim.Native.String.{String}
 use mathlib.Core.List.{List, [], _∷_, map}
 use mathlib.Core.Path.{_≡_, refl}
@@ -55,3 +55,34 @@ inTurn : map (λ c. tried (file (linesInTurn c))) ("[claim 1 fan-out]" ∷ "[cla
     ≡ ((answered (8 ∷ 6 ∷ 1 ∷ 1 ∷ []) ∷ answered (1 ∷ []) ∷ []) ∷ (answered (8 ∷ 6 ∷ 1 ∷ 1 ∷ []) ∷ turnedBack 11 17 ∷ []) ∷ [])
 unfolding tried variant linesInTurn
 inTurn = refl
+
+-- one-sync: of A it holds; of A whose child receives once more behind the first time, it does not, though one-to-one does
+linesTwice : String → List String
+linesTwice claim =
+    "[dispenser 1]" ∷
+    "[row 0 [bind 0 [unit] 1]]" ∷
+    "[row 1 [bind 1 [chan] 2]]" ∷
+    "[row 2 [bind 2 [spawn 3] 7]]" ∷
+    "[row 3 [bind 3 [recv 1] 4]]" ∷
+    "[row 4 [bind 4 [sync 3] 5]]" ∷
+    "[row 5 [bind 7 [sync 3] 6]]" ∷
+    "[row 6 [result 4]]" ∷
+    "[row 7 [bind 5 [send 1 0] 8]]" ∷
+    "[row 8 [bind 6 [sync 5] 9]]" ∷
+    "[row 9 [result 6]]" ∷
+    "[flow 0 [u]]" ∷
+    "[flow 1 [1]]" ∷
+    "[flow 2 [u]]" ∷
+    "[flow 3 [3]]" ∷
+    "[flow 4 [u]]" ∷
+    "[flow 5 [7]]" ∷
+    "[flow 6 [u]]" ∷
+    "[flow 7 [u]]" ∷
+    "[comm 1 [u]]" ∷
+    claim ∷
+    []
+
+oneSync : map tried (variant 19 ("[claim 1 one-sync]" ∷ []) ∷ file (linesTwice "[claim 1 one-to-one]") ∷ file (linesTwice "[claim 1 one-sync]") ∷ [])
+    ≡ ((answered (9 ∷ 7 ∷ 1 ∷ 1 ∷ []) ∷ answered (1 ∷ []) ∷ []) ∷ (answered (10 ∷ 8 ∷ 1 ∷ 1 ∷ []) ∷ answered (1 ∷ []) ∷ []) ∷ (answered (10 ∷ 8 ∷ 1 ∷ 1 ∷ []) ∷ turnedBack 11 21 ∷ []) ∷ [])
+unfolding tried variant linesTwice
+oneSync = refl

@@ -19,6 +19,7 @@ use Rattle.calls.specs.declared.WriteAnswer.{WriteAnswer}
 use Rattle.calls.specs.Answers.{Answer, turnedBack, answered, refusalAnswer, loadAnswer, judgeAnswer, verdictAnswer, writeAnswer}
 use Rattle.calls.specs.Layout.{storeSize, decode}
 use Rattle.calls.specs.Canonical.{countRows}
+use Rattle.calls.specs.Judging.{verdictWords}
 use Rattle.calls.specs.Calls.{opened, andThen, load, judge, verdict, written, write}
 use Rattle.report.specs.Report.{report, reportLimit, Reporting, reported}
 use Rattle.calls.proofs.Canonical.Rows.{count-rows-le}

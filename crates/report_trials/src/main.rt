@@ -109,7 +109,7 @@ fn try_last() {
     );
 }
 
-// The patterns of four words that no other file here has; a program can have six.
+// Patterns of five words that no other file here has; a channel can have seven.
 fn try_patterns() {
     try_report(
         b"one send, two receivers at once",
@@ -125,6 +125,26 @@ fn try_patterns() {
     );
 }
 
+// One send and one receive, and one send and two receives in turn: the seventh pattern.
+fn try_one_sync() {
+    try_report(
+        b"example A, claimed one-sync",
+        b"[dispenser 1]\n[row 0 [bind 0 [unit] 1]]\n[row 1 [bind 1 [chan] 2]]\n[row 2 [bind 2 [spawn 3] 6]]\n[row 3 [bind 3 [recv 1] 4]]\n[row 4 [bind 4 [sync 3] 5]]\n[row 5 [result 4]]\n[row 6 [bind 5 [send 1 0] 7]]\n[row 7 [bind 6 [sync 5] 8]]\n[row 8 [result 6]]\n[flow 0 [u]]\n[flow 1 [1]]\n[flow 2 [u]]\n[flow 3 [3]]\n[flow 4 [u]]\n[flow 5 [6]]\n[flow 6 [u]]\n[comm 1 [u]]\n[claim 1 one-sync]\n",
+    );
+    try_report(
+        b"one send, two receives one after the other",
+        b"[dispenser 1]\n[row 0 [bind 0 [chan] 1]]\n[row 1 [bind 1 [recv 0] 2]]\n[row 2 [bind 2 [send 0 0] 3]]\n[row 3 [bind 3 [spawn 4] 6]]\n[row 4 [bind 4 [sync 2] 5]]\n[row 5 [result 4]]\n[row 6 [bind 5 [sync 1] 7]]\n[row 7 [bind 6 [sync 1] 8]]\n[row 8 [result 6]]\n[flow 0 [0]]\n[flow 1 [1]]\n[flow 2 [2]]\n[flow 3 [u]]\n[flow 4 [u]]\n[flow 5 [0]]\n[flow 6 [0]]\n[comm 0 [0]]\n",
+    );
+    try_report(
+        b"the same, claimed one-to-one",
+        b"[dispenser 1]\n[row 0 [bind 0 [chan] 1]]\n[row 1 [bind 1 [recv 0] 2]]\n[row 2 [bind 2 [send 0 0] 3]]\n[row 3 [bind 3 [spawn 4] 6]]\n[row 4 [bind 4 [sync 2] 5]]\n[row 5 [result 4]]\n[row 6 [bind 5 [sync 1] 7]]\n[row 7 [bind 6 [sync 1] 8]]\n[row 8 [result 6]]\n[flow 0 [0]]\n[flow 1 [1]]\n[flow 2 [2]]\n[flow 3 [u]]\n[flow 4 [u]]\n[flow 5 [0]]\n[flow 6 [0]]\n[comm 0 [0]]\n[claim 0 one-to-one]\n",
+    );
+    try_report(
+        b"the same, claimed one-sync",
+        b"[dispenser 1]\n[row 0 [bind 0 [chan] 1]]\n[row 1 [bind 1 [recv 0] 2]]\n[row 2 [bind 2 [send 0 0] 3]]\n[row 3 [bind 3 [spawn 4] 6]]\n[row 4 [bind 4 [sync 2] 5]]\n[row 5 [result 4]]\n[row 6 [bind 5 [sync 1] 7]]\n[row 7 [bind 6 [sync 1] 8]]\n[row 8 [result 6]]\n[flow 0 [0]]\n[flow 1 [1]]\n[flow 2 [2]]\n[flow 3 [u]]\n[flow 4 [u]]\n[flow 5 [0]]\n[flow 6 [0]]\n[comm 0 [0]]\n[claim 0 one-sync]\n",
+    );
+}
+
 fn main() {
     try_without();
     try_in_turn();
@@ -134,4 +154,5 @@ fn main() {
     try_called();
     try_last();
     try_patterns();
+    try_one_sync();
 }

@@ -30,6 +30,9 @@ array-read-put-channel-3 c = search needs
 array-read-put-channel-4 : tie.Need-array-read-put-channel-4
 array-read-put-channel-4 c = search needs
 
+array-read-put-channel-5 : tie.Need-array-read-put-channel-5
+array-read-put-channel-5 c = search needs
+
 put-channel-requires : tie.Need-put-channel-requires
 put-channel-requires c κs =
     let at-words = c .before in
@@ -69,6 +72,7 @@ put-row-spec =
     array-read-put-channel-2
     array-read-put-channel-3
     array-read-put-channel-4
+    array-read-put-channel-5
     put-channel-requires
     same-length
     returns

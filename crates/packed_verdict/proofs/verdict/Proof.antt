@@ -3,7 +3,7 @@ use borrow.Author.Needs.{needs}
 use mathlib.Core.Path.{refl, ap, _∙_}
 use Rattle.calls.specs.declared.VerdictAnswer.{VerdictAnswer}
 use Rattle.calls.specs.Answers.{verdictAnswer}
-use Rattle.bounds.proofs.Bounds.{four-words}
+use Rattle.bounds.proofs.Bounds.{every-word}
 use Rattle.packing.specs.Packing.{packed, wordBits}
 use Rattle.lossless.proofs.Lossless.{verdict-lossless}
 use Rattle.packed_verdict.proofs.verdict.Statement.{statement}
@@ -13,7 +13,7 @@ verdict-requires : tie.Need-verdict-requires
 verdict-requires c κs = search needs
 
 pack-verdict-requires : tie.Need-pack-verdict-requires
-pack-verdict-requires c κs = rw (c .verdict .ensures .answer-is) (verdict-lossless _ _, four-words _ _)
+pack-verdict-requires c κs = rw (c .verdict .ensures .answer-is) (verdict-lossless _ _, every-word _ _)
 
 returns : tie.Need-returns
 returns c = (c .pack-verdict .ensures ∙ ap (λ (a : VerdictAnswer). packed wordBits (verdictAnswer a)) (c .before .verdict .ensures .answer-is), refl)
