@@ -7,7 +7,7 @@ mod structure;
 mod walks;
 
 pub use flow::{demands, Demand};
-pub use walks::breaking_walks;
+pub use walks::{breaking_walks, BreakingWalks};
 
 use std::ops::Range;
 

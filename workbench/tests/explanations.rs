@@ -4,13 +4,15 @@
 use std::collections::BTreeMap;
 
 use workbench::differential::{draw_file, FileKind};
-use workbench::explain::{breaking_walks, demands, explain};
+use workbench::explain::{breaking_walks, demands, explain, BreakingWalks};
 use workbench::generate::{
     claim_anything, contested, least_document, loose_document, wide_document, Random, Size,
 };
 use workbench::reference::check::{judge, load};
 use workbench::reference::document::Word;
 use workbench::reference::flow::rule_holds;
+use workbench::reference::print::print;
+use workbench::reference::run::End;
 use workbench::reference::steps::{begins, can_share_run, is_walk, steps};
 use workbench::reference::verdict::{places, verdict, word_holds};
 use workbench::text::lines;
@@ -58,28 +60,86 @@ fn walks_break_exactly_the_words_that_do_not_hold() {
             let verdict = verdict(&document, channel);
             let places = places(&document, channel);
             for word in Word::ALL {
-                let walks = breaking_walks(&document, channel, word);
-                assert_eq!(walks.is_none(), word_holds(word, verdict), "{word:?}");
-                let Some([one, other]) = walks else { continue };
+                let breaking = breaking_walks(&document, channel, word);
+                assert_eq!(breaking.is_none(), word_holds(word, verdict), "{word:?}");
+                let Some(BreakingWalks { end, walks }) = breaking else {
+                    continue;
+                };
+                let [one, other] = walks;
                 assert!(is_walk(&steps, &one) && is_walk(&steps, &other));
                 assert!(can_share_run(&document, &one, &other));
                 let ends = [one[one.len() - 1], other[other.len() - 1]];
-                let both_send = ends.iter().all(|end| places.sends.contains(end));
-                let both_receive = ends.iter().all(|end| places.receives.contains(end));
+                let rows = match end {
+                    End::Send => &places.sends,
+                    End::Receive => &places.receives,
+                };
+                assert!(ends.iter().all(|end| rows.contains(end)));
                 let ordered = begins(&one, &other) || begins(&other, &one);
                 assert!(match word {
-                    Word::OneShot => both_send && one != other,
-                    Word::FanOut => both_send && !ordered,
-                    Word::FanIn => both_receive && !ordered,
-                    Word::OneToOne => (both_send || both_receive) && !ordered,
+                    Word::OneShot => end == End::Send && one != other,
+                    Word::FanOut => end == End::Send && !ordered,
+                    Word::FanIn => end == End::Receive && !ordered,
+                    Word::OneToOne => !ordered,
                     Word::Many => false,
                 });
-                *broken.entry(word.text()).or_insert(0) += 1;
+                *broken.entry((word.text(), end, ordered)).or_insert(0) += 1;
             }
         }
     }
     println!("{broken:?}");
-    assert_eq!(broken.len(), 4);
+    // Both ends and both ways, where a word can be broken so.
+    let ways = |word: Word| {
+        let keys = broken.keys();
+        keys.filter(|(text, ..)| *text == word.text()).count()
+    };
+    assert_eq!(Word::ALL.map(ways), [2, 2, 1, 1, 0]);
+}
+
+/// What is told of a claim for row 0 that does not hold.
+fn told(file: &str, word: &str) -> String {
+    let file = format!("{file}[claim 0 {word}]\n");
+    let document = load(file.as_bytes()).expect("load takes it");
+    let refused = judge(&document).expect_err("the claim does not hold");
+    let explanation = explain(file.as_bytes(), refused).expect("an explanation");
+    explanation.why[0].clone()
+}
+
+#[test]
+fn a_place_for_both_ends_is_told_by_the_end_that_breaks() {
+    // Two threads sync on what may be a send or a receive.
+    let file = "\
+[dispenser 1]
+[row 0 [bind 0 [chan] 1]]
+[row 1 [bind 1 [send 0 0] 2]]
+[row 2 [bind 2 [recv 0] 3]]
+[row 3 [bind 3 [spawn 4] 6]]
+[row 4 [bind 4 [sync 1] 5]]
+[row 5 [result 0]]
+[row 6 [bind 5 [sync 1] 7]]
+[row 7 [result 0]]
+[flow 0 [0]]
+[flow 1 [1 2]]
+[flow 2 [2]]
+[flow 3 [u]]
+[flow 4 [u 0]]
+[flow 5 [u 0]]
+[comm 0 [0]]
+";
+    let places = places(&load(file.as_bytes()).unwrap(), 0);
+    assert_eq!(places.sends, [4, 6].into());
+    assert_eq!(places.receives, places.sends);
+    for (word, act, meaning) in [
+        ("one-shot", "send", "at most one send"),
+        ("one-to-one", "send", "no two threads that do so"),
+        ("fan-out", "send", "no two threads that do so"),
+        ("fan-in", "receive", "no two threads that do so"),
+    ] {
+        let ends = "on channel row 0 at row 4 and at row 6";
+        assert_eq!(
+            told(file, word),
+            format!("By the tables one run may {act} {ends}; {word} allows {meaning}.")
+        );
+    }
 }
 
 #[test]
@@ -132,7 +192,7 @@ fn another_refusal_than_the_references_is_not_explained() {
     let size = Size { rows: 9, names: 20 };
     let mut document = loose_document(&mut random, size);
     claim_anything(&mut random, &mut document);
-    let file = workbench::reference::print::print(&document);
+    let file = print(&document);
     let told = workbench::reference::refusal::refusal(8, 3);
     assert_eq!(explain(&file, told), None);
 }

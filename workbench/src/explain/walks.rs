@@ -5,6 +5,7 @@ use std::collections::{BTreeSet, VecDeque};
 use super::Explanation;
 use crate::reference::document::{Document, Form, Word};
 use crate::reference::print::print;
+use crate::reference::run::End;
 use crate::reference::steps::{begins, steps, Steps};
 use crate::reference::verdict::{places, Places};
 use crate::text::lines;
@@ -50,15 +51,36 @@ impl Ways {
     }
 }
 
+/// Two walks that break a word, both ending at send places or both at receive
+/// places.
+#[derive(Clone, Debug, PartialEq, Eq)]
+pub struct BreakingWalks {
+    pub end: End,
+    pub walks: [Vec<usize>; 2],
+}
+
 /// Two walks that can share a run, end at places of the channel row and break
-/// the word; none if the word holds.
-pub fn breaking_walks(document: &Document, channel: usize, word: Word) -> Option<[Vec<usize>; 2]> {
+/// the word; none if the word holds. Where several do, walks that part come
+/// before those of which one begins the other, and sends before receives.
+pub fn breaking_walks(document: &Document, channel: usize, word: Word) -> Option<BreakingWalks> {
     let Places { sends, receives } = places(document, channel);
+    let rows = |end: End| match end {
+        End::Send => &sends,
+        End::Receive => &receives,
+    };
+    let parted = |end: End| {
+        let walks = parted(document, rows(end))?;
+        Some(BreakingWalks { end, walks })
+    };
+    let nested = |end: End| {
+        let walks = nested(document, rows(end))?;
+        Some(BreakingWalks { end, walks })
+    };
     match word {
-        Word::OneShot => parted(document, &sends).or_else(|| nested(document, &sends)),
-        Word::OneToOne => parted(document, &sends).or_else(|| parted(document, &receives)),
-        Word::FanOut => parted(document, &sends),
-        Word::FanIn => parted(document, &receives),
+        Word::OneShot => parted(End::Send).or_else(|| nested(End::Send)),
+        Word::OneToOne => parted(End::Send).or_else(|| parted(End::Receive)),
+        Word::FanOut => parted(End::Send),
+        Word::FanIn => parted(End::Receive),
         Word::Many => None,
     }
 }
@@ -105,22 +127,20 @@ fn nested(document: &Document, rows: &BTreeSet<usize>) -> Option<[Vec<usize>; 2]
 pub fn claim(document: &Document, line: usize) -> Option<Explanation> {
     let index = line.checked_sub(document.claim_line(0))?;
     let claim = document.claims.get(index)?;
-    let walks = breaking_walks(document, claim.channel, claim.word)?;
+    let breaking = breaking_walks(document, claim.channel, claim.word)?;
     let text = print(document);
     let lines = lines(&text);
     let row_text = |&row: &usize| {
         let text = lines[document.row_line(row) - 1].trim_ascii_end();
         format!("    {}", text.escape_ascii())
     };
-    let [one, other] = &walks;
+    let [one, other] = &breaking.walks;
     let shared = one.iter().zip(other).take_while(|(a, b)| a == b).count();
     let last = |walk: &[usize]| walk[walk.len() - 1];
     let (end, other_end) = (last(one), last(other));
-    let sends = places(document, claim.channel).sends;
-    let act = if sends.contains(&end) && sends.contains(&other_end) && claim.word != Word::FanIn {
-        "send"
-    } else {
-        "receive"
+    let act = match breaking.end {
+        End::Send => "send",
+        End::Receive => "receive",
     };
     let meaning = match claim.word {
         Word::OneShot => "at most one send",
@@ -155,7 +175,7 @@ pub fn claim(document: &Document, line: usize) -> Option<Explanation> {
     let claim_text = lines[line - 1].trim_ascii_end();
     let mark = claim_text.len() - 1 - word.len()..claim_text.len() - 1;
     Some(Explanation {
-        walks: Some(walks),
+        walks: Some(breaking.walks),
         ..Explanation::new(Some(mark), why)
     })
 }
