@@ -13,8 +13,8 @@
  *   load accepted     rows, flows, comms and claims, 8 bits each, lowest first
  *   infer accepted    as load
  *   judge accepted    the count of claims
- *   verdict accepted  one-shot, one-to-one, fan-out and fan-in, a bit each,
- *                     lowest first, 1 for yes
+ *   verdict accepted  one-shot, one-to-one, fan-out, fan-in and one-sync, a bit
+ *                     each, lowest first, 1 for yes
  *   write accepted    the bytes written
  *   report accepted   the bytes written
  *   begin, move and meet accepted

@@ -9,8 +9,8 @@ pub use infer::infer;
 
 use bits::Bits;
 
-use crate::layout::{claim_code, comm_flags, flow_flags, row, LIMIT};
-use crate::reference::document::{Bind, Form, Name, Row, Word};
+use crate::layout::{claimed, comm_flags, flow_flags, row, LIMIT};
+use crate::reference::document::{Bind, Form, Name, Row};
 use crate::reference::refusal::{refusal, Refusal, CLAIM, FLOW_RULE, NO_CHANNEL};
 use crate::reference::verdict::{word_holds, Verdict};
 
@@ -32,10 +32,10 @@ pub fn judge(store: &[u8]) -> Result<usize, Refusal> {
     let reach = program.reach();
     let mut claims = 0;
     for channel in 0..program.rows.len() {
-        let Some(index) = claim_code(store, channel).checked_sub(1) else {
+        let Some(word) = claimed(store, channel) else {
             continue;
         };
-        if !word_holds(Word::ALL[index], program.verdict(&reach, channel)) {
+        if !word_holds(word, program.verdict(&reach, channel)) {
             let sets = program.values.iter().chain(&program.messages);
             let lines = sets.filter(|set| !set.is_empty()).count();
             return Err(refusal(CLAIM, 2 + program.rows.len() + lines + claims));
@@ -253,9 +253,10 @@ impl Program {
     fn verdict(&self, reach: &[Bits], channel: usize) -> Verdict {
         let (sends, receives) = self.places(channel);
         let reached = reach[0].with(0);
-        let nested = sends
-            .members()
-            .any(|row| reached.has(row) && reach[row].meets(sends));
+        let nested = |places: Bits| {
+            let mut rows = places.members();
+            rows.any(|row| reached.has(row) && reach[row].meets(places))
+        };
         let (mut fan_out, mut fan_in) = (true, true);
         for row in reached.members() {
             let Some(Row::Bind(bind)) = self.rows.get(row) else {
@@ -268,7 +269,9 @@ impl Program {
                 fan_in &= !(one.meets(receives) && other.meets(receives));
             }
         }
-        [fan_out && !nested, fan_out && fan_in, fan_out, fan_in]
+        let one_shot = fan_out && !nested(sends);
+        let one_sync = one_shot && fan_in && !nested(receives);
+        [one_shot, fan_out && fan_in, fan_out, fan_in, one_sync]
     }
 }
 

@@ -19,8 +19,8 @@ use crate::reference::document::LAST_NUMBER;
 /// The low bits of an answer, which tell accepted from refused.
 const STATUS_BITS: u32 = 8;
 
-/// Four yes or no: one-shot, one-to-one, fan-out, fan-in.
-pub type Verdict = [bool; 4];
+/// Five yes or no: one-shot, one-to-one, fan-out, fan-in, one-sync.
+pub type Verdict = [bool; 5];
 
 /// Why a call was turned back: the numbers of documents 01 and 02.
 #[derive(Clone, Copy, Debug, PartialEq, Eq, PartialOrd, Ord)]
@@ -221,7 +221,7 @@ impl Store {
     /// The verdict on a channel row.
     pub fn verdict(&self, channel: usize) -> Result<Verdict, Refusal> {
         let value = decode(ffi::verdict(&self.bytes, channel))?;
-        Ok([0, 1, 2, 3].map(|bit| value >> bit & 1 == 1))
+        Ok([0, 1, 2, 3, 4].map(|bit| value >> bit & 1 == 1))
     }
 
     /// The bytes that the output of a report must have.

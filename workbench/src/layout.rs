@@ -46,6 +46,17 @@ const FORM_WORDS: [&str; 14] = [
 ];
 const FIRST_FORM: usize = 2;
 
+/// The words of claims by their codes, from 1 on: one-sync, which came later, has
+/// the last, so that the others keep theirs.
+const CLAIM_WORDS: [Word; 6] = [
+    Word::OneShot,
+    Word::OneToOne,
+    Word::FanOut,
+    Word::FanIn,
+    Word::Many,
+    Word::OneSync,
+];
+
 /// The bytes of a document in the store.
 pub fn encode(document: &Document) -> Vec<u8> {
     let mut store = vec![0; STORE_SIZE];
@@ -58,8 +69,8 @@ pub fn encode(document: &Document) -> Vec<u8> {
         encode_set(&mut store[set_place(table)], set);
     }
     for claim in &document.claims {
-        let index = Word::ALL.iter().position(|&word| word == claim.word);
-        store[CLAIMS + claim.channel] = index.map_or(0, |index| index as u8 + 1);
+        let index = CLAIM_WORDS.iter().position(|&word| word == claim.word);
+        store[claim_place(claim.channel)] = index.map_or(0, |index| index as u8 + 1);
     }
     store
 }
@@ -108,10 +119,15 @@ pub fn comm_flags(store: &[u8], channel: usize) -> &[u8] {
     &store[set_place(Table::Messages(channel))]
 }
 
-/// The code of a row's claim: 0 for none, else one more than the word's place in
-/// `Word::ALL`.
-pub fn claim_code(store: &[u8], channel: usize) -> usize {
-    usize::from(store[CLAIMS + channel])
+/// Where the code of a row's claim stands.
+pub fn claim_place(channel: usize) -> usize {
+    CLAIMS + channel
+}
+
+/// The word claimed for a channel row; none if the code is 0 or that of no word.
+pub fn claimed(store: &[u8], channel: usize) -> Option<Word> {
+    let code = usize::from(store[claim_place(channel)]);
+    CLAIM_WORDS.get(code.checked_sub(1)?).copied()
 }
 
 /// The document whose bytes these are; none if no load leaves them.
@@ -134,8 +150,8 @@ pub fn decode(store: &[u8]) -> Option<Document> {
         if !set.is_empty() {
             document.comms.push(Comm { channel, set });
         }
-        if let Some(index) = claim_code(store, channel).checked_sub(1) {
-            let word = *Word::ALL.get(index)?;
+        // A code of no word is told by encoding again.
+        if let Some(word) = claimed(store, channel) {
             document.claims.push(Claim { channel, word });
         }
     }

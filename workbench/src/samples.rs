@@ -8,6 +8,11 @@ pub const PARENT_THEN_CHILD: &str = include_str!("../samples/parent_then_child.t
 pub const TWO_SENDERS: &str = include_str!("../samples/two_senders.txt");
 /// Two threads that receive on one channel.
 pub const TWO_RECEIVERS: &str = include_str!("../samples/two_receivers.txt");
+/// One send, and two receives one after the other in one thread.
+pub const TWO_RECEIVES: &str = include_str!("../samples/two_receives.txt");
+/// A dose receipt: an order goes to a drum's thread with the channel on which the
+/// drum sends the one receipt back. That channel is claimed one-sync.
+pub const RECEIPT: &str = include_str!("../samples/receipt.txt");
 /// A function that sends once and calls itself.
 pub const LOOP: &str = include_str!("../samples/loop.txt");
 /// A send in each of the two branches of a case.

@@ -1,11 +1,12 @@
-//! Every example of document 01, the marked and the unmarked ones, and the
-//! slips it names: by the reference, and by the proved library.
+//! Every example of document 01, the marked and the unmarked ones, the slips it
+//! names, and one-sync of document 02: by the reference, and by the proved
+//! library.
 
 use workbench::checker::{Counts, Reason, Refusal, Store};
 use workbench::reference::check;
 use workbench::samples::{
-    a_with, A, BODY_RESULT, BRANCHES, BRANCH_RESULT, LOOP, PARENT_THEN_CHILD, TWO_CHANNELS,
-    TWO_RECEIVERS, TWO_SENDERS,
+    a_with, A, BODY_RESULT, BRANCHES, BRANCH_RESULT, LOOP, PARENT_THEN_CHILD, RECEIPT,
+    TWO_CHANNELS, TWO_RECEIVERS, TWO_RECEIVES, TWO_SENDERS,
 };
 
 /// What the program prints for a file, by the library's calls.
@@ -50,7 +51,7 @@ fn assert_verdict(file: &str, channel: usize, verdict: &str) {
 
 #[test]
 fn listing_a_is_accepted() {
-    assert_report(A, "[accepted 1]\n[channel 1 [yes yes yes yes]]\n");
+    assert_report(A, "[accepted 1]\n[channel 1 [yes yes yes yes yes]]\n");
     let document = check::load(A.as_bytes()).unwrap();
     assert_eq!(check::counts(&document), [9, 7, 1, 1]);
     assert_eq!(check::write(&document), A.as_bytes());
@@ -83,7 +84,7 @@ fn marked_refusals() {
 
 #[test]
 fn claim_absent_is_accepted_with_none() {
-    assert_verdict(&a_with("[claim 1 one-shot]", ""), 1, "yes yes yes yes");
+    assert_verdict(&a_with("[claim 1 one-shot]", ""), 1, "yes yes yes yes yes");
 }
 
 #[test]
@@ -105,27 +106,57 @@ fn verdict_of_no_channel_is_24_before_10() {
 
 #[test]
 fn parent_sends_then_spawns_a_child_that_sends() {
-    assert_verdict(PARENT_THEN_CHILD, 0, "no yes yes yes");
+    assert_verdict(PARENT_THEN_CHILD, 0, "no yes yes yes no");
 }
 
 #[test]
 fn two_threads_send() {
-    let accepted = "[accepted 1]\n[channel 0 [no no no yes]]\n";
+    let accepted = "[accepted 1]\n[channel 0 [no no no yes no]]\n";
     assert_report(TWO_SENDERS, accepted);
     assert_report(&TWO_SENDERS.replace("fan-in", "many"), accepted);
-    for word in ["one-shot", "one-to-one", "fan-out"] {
+    for word in ["one-shot", "one-to-one", "fan-out", "one-sync"] {
         assert_refused(&TWO_SENDERS.replace("fan-in", word), 11, 15);
     }
 }
 
 #[test]
 fn two_threads_receive() {
-    assert_verdict(TWO_RECEIVERS, 0, "yes no yes no");
+    assert_verdict(TWO_RECEIVERS, 0, "yes no yes no no");
+}
+
+#[test]
+fn one_thread_receives_twice() {
+    assert_verdict(TWO_RECEIVES, 0, "yes yes yes yes no");
+    for word in ["one-shot", "one-to-one", "fan-out", "fan-in", "many"] {
+        let accepted = "[accepted 1]\n[channel 0 [yes yes yes yes no]]\n";
+        assert_report(&format!("{TWO_RECEIVES}[claim 0 {word}]\n"), accepted);
+    }
+    assert_refused(&format!("{TWO_RECEIVES}[claim 0 one-sync]\n"), 11, 19);
+}
+
+#[test]
+fn a_dose_receipt_is_one_sync() {
+    let order = "[channel 0 [yes yes yes yes yes]]\n";
+    let receipt = "[channel 1 [yes yes yes yes yes]]\n";
+    assert_report(RECEIPT, &format!("[accepted 2]\n{order}{receipt}"));
+    // Whoever waits for a second receipt breaks the claim.
+    let waiting = RECEIPT
+        .replace(
+            "[row 13 [result 11]]\n",
+            "[row 13 [bind 12 [sync 10] 14]]\n[row 14 [result 12]]\n",
+        )
+        .replace("[flow 11 [u]]\n", "[flow 11 [u]]\n[flow 12 [u]]\n");
+    assert_refused(&waiting, 11, 33);
+    let receipt = "[channel 1 [yes yes yes yes no]]\n";
+    assert_report(
+        &waiting.replace("one-sync", "one-shot"),
+        &format!("[accepted 2]\n{order}{receipt}"),
+    );
 }
 
 #[test]
 fn a_send_in_a_loop_is_not_one_shot() {
-    assert_verdict(LOOP, 0, "no yes yes yes");
+    assert_verdict(LOOP, 0, "no yes yes yes no");
 }
 
 #[test]
@@ -135,21 +166,23 @@ fn a_funs_own_name_needs_its_value() {
 
 #[test]
 fn the_two_branches_of_a_case_cannot_share_a_run() {
-    assert_report(BRANCHES, "[accepted 1]\n[channel 0 [yes yes yes yes]]\n");
+    let accepted = "[accepted 1]\n[channel 0 [yes yes yes yes yes]]\n";
+    assert_report(BRANCHES, accepted);
+    assert_report(&BRANCHES.replace("one-shot", "one-sync"), accepted);
 }
 
 #[test]
 fn a_bodys_result_steps_to_the_rest() {
-    assert_verdict(BODY_RESULT, 0, "no yes yes yes");
+    assert_verdict(BODY_RESULT, 0, "no yes yes yes no");
 }
 
 #[test]
 fn a_branchs_result_steps_to_the_rest() {
-    assert_verdict(BRANCH_RESULT, 0, "no yes yes yes");
+    assert_verdict(BRANCH_RESULT, 0, "no yes yes yes no");
 }
 
 #[test]
 fn chan_lines_rise_by_row() {
-    let channels = "[channel 0 [yes yes yes yes]]\n[channel 1 [yes yes yes yes]]\n";
+    let channels = "[channel 0 [yes yes yes yes yes]]\n[channel 1 [yes yes yes yes yes]]\n";
     assert_report(TWO_CHANNELS, &format!("[accepted 0]\n{channels}"));
 }

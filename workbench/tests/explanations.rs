@@ -11,6 +11,7 @@ use workbench::generate::{
 use workbench::reference::check::{judge, load};
 use workbench::reference::document::Word;
 use workbench::reference::flow::rule_holds;
+use workbench::reference::infer::infer;
 use workbench::reference::print::print;
 use workbench::reference::run::End;
 use workbench::reference::steps::{begins, can_share_run, is_walk, steps};
@@ -80,6 +81,7 @@ fn walks_break_exactly_the_words_that_do_not_hold() {
                     Word::FanOut => end == End::Send && !ordered,
                     Word::FanIn => end == End::Receive && !ordered,
                     Word::OneToOne => !ordered,
+                    Word::OneSync => one != other,
                     Word::Many => false,
                 });
                 *broken.entry((word.text(), end, ordered)).or_insert(0) += 1;
@@ -92,7 +94,7 @@ fn walks_break_exactly_the_words_that_do_not_hold() {
         let keys = broken.keys();
         keys.filter(|(text, ..)| *text == word.text()).count()
     };
-    assert_eq!(Word::ALL.map(ways), [2, 2, 1, 1, 0]);
+    assert_eq!(Word::ALL.map(ways), [2, 2, 1, 1, 4, 0]);
 }
 
 /// What is told of a claim for row 0 that does not hold.
@@ -133,6 +135,7 @@ fn a_place_for_both_ends_is_told_by_the_end_that_breaks() {
         ("one-to-one", "send", "no two threads that do so"),
         ("fan-out", "send", "no two threads that do so"),
         ("fan-in", "receive", "no two threads that do so"),
+        ("one-sync", "send", "at most one send"),
     ] {
         let ends = "on channel row 0 at row 4 and at row 6";
         assert_eq!(
@@ -140,6 +143,48 @@ fn a_place_for_both_ends_is_told_by_the_end_that_breaks() {
             format!("By the tables one run may {act} {ends}; {word} allows {meaning}.")
         );
     }
+}
+
+#[test]
+fn walks_that_part_are_told_first_and_sends_before_receives() {
+    let with_tables = |rows: &str| {
+        let document = infer(&load(rows.as_bytes()).expect("load takes it"));
+        String::from_utf8(print(&document)).unwrap()
+    };
+    // One thread sends twice; then it receives, and so does one that it spawns.
+    let parted = with_tables(
+        "\
+[dispenser 1]
+[row 0 [bind 0 [chan] 1]]
+[row 1 [bind 1 [send 0 0] 2]]
+[row 2 [bind 2 [recv 0] 3]]
+[row 3 [bind 3 [sync 1] 4]]
+[row 4 [bind 4 [sync 1] 5]]
+[row 5 [bind 5 [spawn 6] 8]]
+[row 6 [bind 6 [sync 2] 7]]
+[row 7 [result 0]]
+[row 8 [bind 7 [sync 2] 9]]
+[row 9 [result 0]]
+",
+    );
+    assert!(
+        told(&parted, "one-sync").contains("may receive on channel row 0 at row 6 and at row 8")
+    );
+    // One thread receives twice, and then sends twice.
+    let in_turn = with_tables(
+        "\
+[dispenser 1]
+[row 0 [bind 0 [chan] 1]]
+[row 1 [bind 1 [send 0 0] 2]]
+[row 2 [bind 2 [recv 0] 3]]
+[row 3 [bind 3 [sync 2] 4]]
+[row 4 [bind 4 [sync 2] 5]]
+[row 5 [bind 5 [sync 1] 6]]
+[row 6 [bind 6 [sync 1] 7]]
+[row 7 [result 0]]
+",
+    );
+    assert!(told(&in_turn, "one-sync").contains("may send on channel row 0 at row 5 and at row 6"));
 }
 
 #[test]

@@ -55,7 +55,14 @@ const FORMS: [&str; 14] = [
     "[apply # #]",
 ];
 
-const WORDS: [&str; 5] = ["one-shot", "one-to-one", "fan-out", "fan-in", "many"];
+const WORDS: [&str; 6] = [
+    "one-shot",
+    "one-to-one",
+    "fan-out",
+    "fan-in",
+    "one-sync",
+    "many",
+];
 
 /// The kind of a shape: 0 row, 1 flow, 2 comm, 3 claim.
 fn kind(shape: &str) -> Option<usize> {

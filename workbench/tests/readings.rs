@@ -1,8 +1,14 @@
-//! The readings of open places, items 1 to 23, as far as documents show them: by
-//! the reference, with which the library is compared on every file.
+//! The readings of open places, items 1 to 23, 25 and what item 33 says of
+//! verdicts, as far as documents show them: by the reference, with which the
+//! library is compared on every file.
 
+use std::collections::BTreeSet;
+
+use workbench::checker::Store;
 use workbench::differential::{compare_file, Tally};
-use workbench::generate::{chain, file_of_length, Random};
+use workbench::generate::{
+    chain, contested, file_of_length, least_document, wide_document, Random, Size,
+};
 use workbench::reference::check::{self, judge, verdict};
 use workbench::reference::document::{Document, LAST_NUMBER, MAX_FILE_BYTES};
 use workbench::reference::infer::infer;
@@ -272,7 +278,9 @@ fn item_08_sets() {
 #[test]
 fn item_09_words_not_known_yet() {
     for line in [
-        "[claim 0 one-sync]",
+        "[claim 0 one-synch]",
+        "[claim 0 one-syn]",
+        "[claim 0 onesync]",
         "[group [0 1] many]",
         "[claim 0 One-shot]",
         "[claim 0 oneshot]",
@@ -714,7 +722,7 @@ fn item_22_places_that_no_walk_reaches() {
     ];
     assert_eq!(
         report(lines(&rows).as_bytes()),
-        "[accepted 1]\n[channel 0 [yes yes yes yes]]\n"
+        "[accepted 1]\n[channel 0 [yes yes yes yes yes]]\n"
     );
 }
 
@@ -742,4 +750,111 @@ fn item_23_smallest_tables_over_all_rows() {
     // It has its smallest tables now, and keeps them.
     assert_eq!(load(smallest.as_bytes()), Ok(infer(&outcome)));
     assert_eq!(judge(&outcome), Ok(1));
+}
+
+/// What the program prints of rows with their smallest tables, and of the same
+/// with a claim for row 0.
+fn reports(rows: &[&str], claim: &str) -> [String; 2] {
+    [vec![], vec![claim]].map(|claims| {
+        let document = load(lines(&[rows, &claims].concat()).as_bytes()).unwrap();
+        report(&print(&infer(&document)))
+    })
+}
+
+#[test]
+fn item_25_one_sync_asks_for_the_same_walk() {
+    let one_sync = "[claim 0 one-sync]";
+    // Two receives one after the other.
+    let rows = [
+        "[row 0 [bind 0 [chan] 1]]",
+        "[row 1 [bind 1 [recv 0] 2]]",
+        "[row 2 [bind 2 [sync 1] 3]]",
+        "[row 3 [bind 3 [sync 1] 4]]",
+        "[row 4 [result 0]]",
+    ];
+    let no = "[accepted 0]\n[channel 0 [yes yes yes yes no]]\n";
+    assert_eq!(reports(&rows, one_sync), [no, "[refused 11 9]\n"]);
+    // One before a spawn and one in the spawned thread.
+    let rows = [
+        "[row 0 [bind 0 [chan] 1]]",
+        "[row 1 [bind 1 [recv 0] 2]]",
+        "[row 2 [bind 2 [sync 1] 3]]",
+        "[row 3 [bind 3 [spawn 4] 6]]",
+        "[row 4 [bind 4 [sync 1] 5]]",
+        "[row 5 [result 0]]",
+        "[row 6 [result 0]]",
+    ];
+    assert_eq!(reports(&rows, one_sync), [no, "[refused 11 12]\n"]);
+    // One in each of the two branches of a case.
+    let rows = [
+        "[row 0 [bind 0 [chan] 1]]",
+        "[row 1 [bind 1 [recv 0] 2]]",
+        "[row 2 [bind 2 [left 0] 3]]",
+        "[row 3 [bind 3 [case 2 4 4 5 6] 8]]",
+        "[row 4 [bind 6 [sync 1] 5]]",
+        "[row 5 [result 0]]",
+        "[row 6 [bind 7 [sync 1] 7]]",
+        "[row 7 [result 0]]",
+        "[row 8 [result 0]]",
+    ];
+    let yes = "[channel 0 [yes yes yes yes yes]]\n";
+    let accepted = [0, 1].map(|claims| format!("[accepted {claims}]\n{yes}"));
+    assert_eq!(reports(&rows, one_sync), accepted);
+    // One receive in a loop.
+    let rows = [
+        "[row 0 [bind 0 [chan] 1]]",
+        "[row 1 [bind 1 [fun 2 3 2] 6]]",
+        "[row 2 [bind 4 [recv 0] 3]]",
+        "[row 3 [bind 5 [sync 4] 4]]",
+        "[row 4 [bind 6 [apply 2 3] 5]]",
+        "[row 5 [result 6]]",
+        "[row 6 [bind 7 [apply 1 0] 7]]",
+        "[row 7 [result 0]]",
+    ];
+    assert_eq!(reports(&rows, one_sync), [no, "[refused 11 15]\n"]);
+    // Receives in two threads, and sends in either way.
+    let rows = [
+        "[row 0 [bind 0 [chan] 1]]",
+        "[row 1 [bind 1 [recv 0] 2]]",
+        "[row 2 [bind 2 [spawn 3] 5]]",
+        "[row 3 [bind 3 [sync 1] 4]]",
+        "[row 4 [result 0]]",
+        "[row 5 [bind 4 [sync 1] 6]]",
+        "[row 6 [result 0]]",
+    ];
+    let no = "[accepted 0]\n[channel 0 [yes no yes no no]]\n";
+    assert_eq!(reports(&rows, one_sync), [no, "[refused 11 12]\n"]);
+    let sends = rows.map(|row| row.replace("[recv 0]", "[send 0 0]"));
+    let sends = sends.each_ref().map(String::as_str);
+    let no = "[accepted 0]\n[channel 0 [no no no yes no]]\n";
+    assert_eq!(reports(&sends, one_sync), [no, "[refused 11 15]\n"]);
+}
+
+#[test]
+fn item_33_seven_verdicts_are_possible() {
+    // One-shot, one-to-one, fan-out, fan-in, one-sync.
+    let possible = [
+        "YYYYY", "YYYYN", "YNYNN", "NYYYN", "NNYNN", "NNNYN", "NNNNN",
+    ];
+    let mut random = Random::new(33);
+    let mut found = BTreeSet::new();
+    for _ in 0..2_000 {
+        let size = Size {
+            rows: 12 + random.below(24),
+            names: 90,
+        };
+        let document = match random.below(3) {
+            0 => contested(&mut random, size, wide_document),
+            _ => contested(&mut random, size, least_document),
+        };
+        let mut store = Store::new();
+        store.load(&print(&document)).expect("load takes it");
+        for channel in document.chan_rows() {
+            let words = verdict(&document, channel).expect("tables that keep the rules");
+            assert_eq!(store.verdict(channel), Ok(words));
+            let letters = words.map(|holds| if holds { 'Y' } else { 'N' });
+            found.insert(String::from_iter(letters));
+        }
+    }
+    assert_eq!(found, possible.map(String::from).into());
 }

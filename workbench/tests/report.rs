@@ -5,7 +5,7 @@ use workbench::checker::{Reason, Refusal, Store};
 use workbench::differential::{draw_file, FileKind};
 use workbench::generate::Random;
 use workbench::reference::check;
-use workbench::samples::{A, SERVER, TWO_RECEIVERS, TWO_SENDERS};
+use workbench::samples::{A, RECEIPT, SERVER, TWO_RECEIVERS, TWO_RECEIVES, TWO_SENDERS};
 
 /// What stands in the output before a report, so that each byte is seen.
 const FILL: u8 = 0xa5;
@@ -27,7 +27,8 @@ fn assert_report(file: &[u8]) {
 
 #[test]
 fn samples_have_the_reports_of_the_reference() {
-    for file in [A, SERVER, TWO_RECEIVERS, TWO_SENDERS, "", "[dispenser 1]\n"] {
+    let samples = [A, RECEIPT, SERVER, TWO_RECEIVERS, TWO_RECEIVES, TWO_SENDERS];
+    for file in samples.into_iter().chain(["", "[dispenser 1]\n"]) {
         assert_report(file.as_bytes());
     }
 }

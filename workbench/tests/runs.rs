@@ -1,6 +1,8 @@
 //! Runs of the proved library: random schedules beside the reference's pools,
 //! the histories that these leave, and the examples.
 
+use std::collections::BTreeMap;
+
 use workbench::checker::{Move, Reason, Refusal, Run, Store, Thread};
 use workbench::differential::{loaded_store, try_moves, Moves, Watched};
 use workbench::generate::{lively_document, Random, Size};
@@ -10,8 +12,8 @@ use workbench::reference::print::print;
 use workbench::reference::run::{chan_row, fits, histories};
 use workbench::runs::CELL_LIMIT;
 use workbench::samples::{
-    a_with, A, BODY_RESULT, BRANCHES, BRANCH_RESULT, LOOP, PARENT_THEN_CHILD, RELAY, SERVER,
-    TWO_RECEIVERS, TWO_SENDERS, UNPACKING,
+    a_with, A, BODY_RESULT, BRANCHES, BRANCH_RESULT, LOOP, PARENT_THEN_CHILD, RECEIPT, RELAY,
+    SERVER, TWO_RECEIVERS, TWO_RECEIVES, TWO_SENDERS, UNPACKING,
 };
 
 #[derive(Debug, Default)]
@@ -20,7 +22,8 @@ struct Tally {
     other_files: usize,
     schedules: usize,
     moves: Moves,
-    claimed_instances: usize,
+    /// Instances of claimed channels in accepted files, by the word.
+    claimed: BTreeMap<&'static str, usize>,
     not_fitting: usize,
 }
 
@@ -43,7 +46,9 @@ fn watch(random: &mut Random, document: &Document, schedules: usize, tries: usiz
             if let Some(claim) = claims.find(|claim| claim.channel == row) {
                 let fitting = fits(&history, claim.word);
                 assert!(fitting || !accepted, "{:?}", claim.word);
-                t.claimed_instances += usize::from(accepted && claim.word != Word::Many);
+                if accepted {
+                    *t.claimed.entry(claim.word.text()).or_default() += 1;
+                }
                 t.not_fitting += usize::from(!fitting);
             }
         }
@@ -79,7 +84,10 @@ fn schedules_of_small_programs() {
     let moves = &tally.moves;
     assert!(moves.accepted > 300_000 && moves.not_allowed > 100_000);
     assert!(moves.meetings > 10_000 && moves.returns > 10_000 && moves.spawns > 10_000);
-    assert!(tally.claimed_instances > 5_000 && tally.not_fitting > 100);
+    for word in Word::OF_VERDICT {
+        assert!(tally.claimed.get(word.text()) > Some(&1_000), "{word:?}");
+    }
+    assert!(tally.not_fitting > 100);
 }
 
 #[test]
@@ -102,6 +110,8 @@ fn schedules_of_samples() {
         (PARENT_THEN_CHILD, 100, 20),
         (TWO_SENDERS, 200, 20),
         (TWO_RECEIVERS, 200, 20),
+        (TWO_RECEIVES, 200, 30),
+        (RECEIPT, 500, 40),
         (LOOP, 100, 20),
         (BRANCHES, 100, 20),
         (BODY_RESULT, 100, 20),

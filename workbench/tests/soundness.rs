@@ -18,7 +18,7 @@ use workbench::reference::run::{
 use workbench::reference::steps::{can_share_run, is_walk, steps};
 use workbench::reference::structure::scopes;
 use workbench::reference::verdict::word_holds;
-use workbench::samples::{A, RELAY, SERVER, UNPACKING};
+use workbench::samples::{A, RECEIPT, RELAY, SERVER, TWO_RECEIVES, UNPACKING};
 
 #[derive(Default, Debug)]
 struct Tally {
@@ -28,7 +28,8 @@ struct Tally {
     meetings: usize,
     not_allowed: usize,
     paths: usize,
-    claimed_instances: usize,
+    /// Instances of claimed channels, by the word.
+    claimed: BTreeMap<&'static str, usize>,
     busy_instances: usize,
     rivals_seen: usize,
     labels: BTreeMap<LabelKind, usize>,
@@ -192,7 +193,7 @@ fn check_histories(document: &Document, pool: &Pool, tally: &mut Tally) {
             tally.busy_instances += 1;
         }
         if let Some(claim) = document.claims.iter().find(|c| c.channel == channel) {
-            tally.claimed_instances += 1;
+            *tally.claimed.entry(claim.word.text()).or_default() += 1;
             assert!(fits(&history, claim.word), "{}", text(document));
         }
         let verdict = verdict(document, channel).expect("accepted tables");
@@ -250,6 +251,9 @@ fn histories_of_small_programs_fit() {
     assert!(tally.meetings > 2_000);
     assert!(tally.rivals_seen > 500);
     assert_eq!(tally.labels.len(), 4);
+    for word in Word::OF_VERDICT {
+        assert!(tally.claimed.get(word.text()) > Some(&500), "{word:?}");
+    }
 }
 
 #[test]
@@ -289,8 +293,9 @@ fn histories_of_a_server_fit() {
     let mut answered = 0;
     for _ in 0..300 {
         let document = with_least_tables(&mut random, SERVER);
-        assert_eq!(verdict(&document, 0), Ok([false, false, false, true]));
-        assert_eq!(verdict(&document, 10), Ok([false, false, true, false]));
+        let [requests, replies] = [0, 10].map(|row| verdict(&document, row));
+        assert_eq!(requests, Ok([false, false, false, true, false]));
+        assert_eq!(replies, Ok([false, false, true, false, false]));
         let pool = run(&mut random, &document, 200, &mut tally);
         check_pool(&document, &pool);
         check_histories(&document, &pool, &mut tally);
@@ -313,14 +318,55 @@ fn histories_of_a_relay_fit() {
     let mut tally = Tally::default();
     for _ in 0..300 {
         let document = with_least_tables(&mut random, RELAY);
-        assert_eq!(verdict(&document, 0), Ok([false, true, true, true]));
-        assert_eq!(verdict(&document, 1), Ok([false, true, true, true]));
+        for row in [0, 1] {
+            let expected = Ok([false, true, true, true, false]);
+            assert_eq!(verdict(&document, row), expected);
+        }
         let pool = run(&mut random, &document, 150, &mut tally);
         check_pool(&document, &pool);
         check_histories(&document, &pool, &mut tally);
     }
     println!("{tally:?}");
     assert!(tally.meetings > 3_000);
+}
+
+#[test]
+fn histories_of_a_receipt_hold_one_path_at_either_end() {
+    let mut random = Random::new(28);
+    let mut tally = Tally::default();
+    let document = load(RECEIPT.as_bytes()).expect("load takes it");
+    accept(&document);
+    let mut met = 0;
+    for _ in 0..300 {
+        let pool = run(&mut random, &document, 80, &mut tally);
+        check_pool(&document, &pool);
+        check_histories(&document, &pool, &mut tally);
+        for history in histories(&document, &pool).values() {
+            let (sends, receives) = (history.sends.len(), history.receives.len());
+            assert!(sends <= 1 && receives <= 1);
+            met += usize::from(sends + receives == 2);
+        }
+    }
+    println!("{met} with both, {tally:?}");
+    // The order and the receipt of every full run.
+    assert!(met > 400);
+}
+
+#[test]
+fn two_receives_in_turn_fit_every_word_but_one_sync() {
+    let mut random = Random::new(29);
+    let document = load(TWO_RECEIVES.as_bytes()).expect("load takes it");
+    accept(&document);
+    let pool = run(&mut random, &document, 80, &mut Tally::default());
+    let all = histories(&document, &pool);
+    assert_eq!(all.len(), 1);
+    for history in all.values() {
+        // The second receive waits for ever.
+        assert_eq!((history.sends.len(), history.receives.len()), (1, 2));
+        for word in Word::ALL {
+            assert_eq!(fits(history, word), word != Word::OneSync, "{word:?}");
+        }
+    }
 }
 
 #[test]
@@ -381,8 +427,8 @@ fn claims_that_do_not_hold_are_broken_by_some_run() {
         }
     }
     println!("no: {no:?}, broken: {broken:?}");
-    for word in ["one-shot", "one-to-one", "fan-out", "fan-in"] {
-        assert!(broken.get(word) > Some(&20), "{word}");
+    for word in Word::OF_VERDICT {
+        assert!(broken.get(word.text()) > Some(&20), "{word:?}");
     }
 }
 

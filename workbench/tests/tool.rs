@@ -7,7 +7,8 @@ use std::process::{Command, Output, Stdio};
 use workbench::generate::hardest;
 use workbench::reference::print::print;
 use workbench::samples::{
-    a_with, a_without_tables, A, LOOP, RELAY, SERVER, TWO_RECEIVERS, TWO_SENDERS, UNPACKING,
+    a_with, a_without_tables, A, LOOP, RECEIPT, RELAY, SERVER, TWO_RECEIVERS, TWO_RECEIVES,
+    TWO_SENDERS, UNPACKING,
 };
 
 /// A folder of its own for each test, with files in it.
@@ -56,8 +57,29 @@ fn an_accepted_file_has_a_table() {
         text(&output.stdout),
         "\
 a.txt: accepted, 1 claim holds
-  channel name  claim       one-shot    one-to-one  fan-out     fan-in
-  row 1   1     one-shot    yes         yes         yes         yes
+  channel name  claim       one-shot    one-to-one  fan-out     fan-in      one-sync
+  row 1   1     one-shot    yes         yes         yes         yes         yes
+"
+    );
+}
+
+#[test]
+fn the_table_has_a_line_for_each_channel() {
+    let output = Folder::new("channels")
+        .put("receipt", RECEIPT)
+        .put("twice", TWO_RECEIVES)
+        .run(&["check", "receipt", "twice"]);
+    assert_eq!(output.status.code(), Some(0));
+    assert_eq!(
+        text(&output.stdout),
+        "\
+receipt: accepted, 2 claims hold
+  channel name  claim       one-shot    one-to-one  fan-out     fan-in      one-sync
+  row 0   0     one-shot    yes         yes         yes         yes         yes
+  row 1   1     one-sync    yes         yes         yes         yes         yes
+twice: accepted, no claim to judge
+  channel name  claim       one-shot    one-to-one  fan-out     fan-in      one-sync
+  row 0   0     -           yes         yes         yes         yes         no
 "
     );
 }
@@ -201,10 +223,49 @@ fan-out allows no two threads that do so.
 }
 
 #[test]
+fn a_false_claim_of_one_sync_has_two_sends_or_two_receives() {
+    let claimed = |file: &str| format!("{file}[claim 0 one-sync]\n");
+    assert_eq!(
+        refused("receives in turn", claimed(TWO_RECEIVES)),
+        "\
+f: refused 11 at line 19: the claim does not hold
+  19 | [claim 0 one-sync]
+     |          ^^^^^^^^
+  By the tables one run may receive on channel row 0 at row 6 and at row 7; \
+one-sync allows at most one receive.
+  Both walks begin:
+      [row 0 [bind 0 [chan] 1]]
+      [row 1 [bind 1 [spawn 2] 5]]
+      [row 5 [bind 4 [recv 0] 6]]
+      [row 6 [bind 5 [sync 4] 7]]
+  There the first walk ends, at row 6. The second goes on:
+      [row 7 [bind 6 [sync 4] 8]]
+"
+    );
+    for (file, why) in [
+        (
+            claimed(TWO_RECEIVERS),
+            "may receive on channel row 0 at row 3 and at row 5; one-sync allows at most one receive.",
+        ),
+        (
+            TWO_SENDERS.replace("fan-in", "one-sync"),
+            "may send on channel row 0 at row 3 and at row 5; one-sync allows at most one send.",
+        ),
+        (
+            claimed(LOOP),
+            "may send on channel row 0 at row 3 twice; one-sync allows at most one send.",
+        ),
+    ] {
+        let shown = refused("one-sync", file);
+        assert!(shown.contains(why), "{shown}");
+    }
+}
+
+#[test]
 fn every_number_is_explained() {
     let spawn = "[row 2 [bind 2 [spawn 3] 6]]";
     let sync = "[row 4 [bind 4 [sync 3] 5]]";
-    let cases: [(&str, String, &str, &str); 22] = [
+    let cases: [(&str, String, &str, &str); 23] = [
         ("1", "x".repeat(32_769), "refused 1:", "at most 32768 bytes"),
         (
             "2",
@@ -247,6 +308,13 @@ fn every_number_is_explained() {
             a_with("[flow 0 [u]]", "[flow 0 [1 u]]"),
             "line 11:",
             "`u` may stand first only",
+        ),
+        (
+            "2",
+            a_with("[claim 1 one-shot]", "[claim 1 one-synch]"),
+            "line 19:",
+            "Here `one-synch` stands; expected is `one-shot`, `one-to-one`, `fan-out`, `fan-in`, \
+             `one-sync` or `many`.",
         ),
         (
             "2",
@@ -350,13 +418,15 @@ fn json_for_machines() {
     let folder = Folder::new("json");
     folder
         .put("a \"b\".txt", A)
-        .put("r", TWO_SENDERS.replace("fan-in", "fan-out"));
-    let output = folder.run(&["check", "--json", "a \"b\".txt", "r", "no-such"]);
+        .put("r", TWO_SENDERS.replace("fan-in", "fan-out"))
+        .put("s", format!("{TWO_RECEIVES}[claim 0 one-sync]\n"))
+        .put("t", format!("{TWO_RECEIVES}[claim 0 many]\n"));
+    let output = folder.run(&["check", "--json", "a \"b\".txt", "r", "no-such", "s", "t"]);
     assert_eq!(output.status.code(), Some(2));
     let lines: Vec<&str> = text(&output.stdout).lines().collect();
     assert_eq!(
         lines[0],
-        r#"{"file": "a \"b\".txt", "accepted": true, "claims": 1, "channels": [{"row": 1, "name": 1, "claim": "one-shot", "verdict": {"one-shot": true, "one-to-one": true, "fan-out": true, "fan-in": true}}]}"#
+        r#"{"file": "a \"b\".txt", "accepted": true, "claims": 1, "channels": [{"row": 1, "name": 1, "claim": "one-shot", "verdict": {"one-shot": true, "one-to-one": true, "fan-out": true, "fan-in": true, "one-sync": true}}]}"#
     );
     let begin = r#"{"file": "r", "accepted": false, "number": 11, "line": 15, "reason": "the claim does not hold", "text": "[claim 0 fan-out]", "columns": [10, 16], "why": ["By the tables"#;
     assert!(lines[1].starts_with(begin), "{}", lines[1]);
@@ -365,6 +435,11 @@ fn json_for_machines() {
         lines[2],
         r#"{"file": "no-such", "error": "there is no such file"}"#
     );
+    assert!(lines[3].contains(r#""text": "[claim 0 one-sync]", "columns": [10, 17], "#));
+    assert!(lines[3].ends_with(r#""walks": [[0, 1, 5, 6], [0, 1, 5, 6, 7]]}"#));
+    assert!(lines[4].ends_with(
+        r#""claim": "many", "verdict": {"one-shot": true, "one-to-one": true, "fan-out": true, "fan-in": true, "one-sync": false}}]}"#
+    ));
     let rule = folder
         .put("f", a_with("[flow 4 [u]]", ""))
         .run(&["check", "--json", "f"]);

@@ -5,16 +5,16 @@
 //! (or to the spawn row) and the way on from there need pass no row twice. So
 //! the walks up to that length decide.
 
-use std::collections::BTreeSet;
+use std::collections::{BTreeMap, BTreeSet};
 
 use workbench::generate::{
     claim_anything, contested, least_document, loose_document, wide_document, Random, Size,
 };
 use workbench::reference::check::{judge, load, verdict, write};
-use workbench::reference::document::{Document, Form, Word};
+use workbench::reference::document::{Document, Form};
 use workbench::reference::refusal::refusal;
 use workbench::reference::steps::{begins, can_share_run, is_walk, part_at_spawn, steps};
-use workbench::reference::verdict::{counted_pairs, word_holds};
+use workbench::reference::verdict::{counted_pairs, word_holds, Verdict};
 
 /// All walks of at most so many rows; none if they are more than the limit.
 fn walks(document: &Document, longest: usize, limit: usize) -> Option<Vec<Vec<usize>>> {
@@ -100,7 +100,7 @@ struct Tally {
     programs: usize,
     skipped: usize,
     channels: usize,
-    verdicts: std::collections::BTreeMap<[bool; 4], usize>,
+    verdicts: BTreeMap<Verdict, usize>,
     pairs: usize,
 }
 
@@ -117,7 +117,7 @@ fn compare(document: &Document, limit: usize, tally: &mut Tally) -> bool {
     let mut nested = vec![vec![false; count]; count];
     let mut parted = vec![vec![false; count]; count];
     let channels = document.chan_rows();
-    let mut verdicts = vec![[true; 4]; channels.len()];
+    let mut verdicts: Vec<Verdict> = vec![[true; 5]; channels.len()];
     let end = |walk: &[usize]| walk[walk.len() - 1];
     let place = |sending: bool| -> Vec<Vec<bool>> {
         channels
@@ -156,6 +156,7 @@ fn compare(document: &Document, limit: usize, tally: &mut Tally) -> bool {
                 verdicts[index][1] &= fan_out && fan_in;
                 verdicts[index][2] &= fan_out;
                 verdicts[index][3] &= fan_in;
+                verdicts[index][4] &= one_shot && (!both_receive || same);
             }
         }
     }
@@ -251,28 +252,5 @@ fn verdicts_with_any_tables() {
 fn verdicts_of_longer_programs() {
     let tally = compare_many(4, 8_000, 13, least_document);
     // Every verdict that can come up does.
-    assert_eq!(tally.verdicts.len(), 6, "{:?}", tally.verdicts);
-}
-
-#[test]
-fn only_six_verdicts_are_possible() {
-    // one-to-one is fan-out and fan-in, and one-shot gives fan-out.
-    let mut random = Random::new(5);
-    for _ in 0..2_000 {
-        let size = Size {
-            rows: 30,
-            names: 60,
-        };
-        let document = least_document(&mut random, size);
-        for channel in document.chan_rows() {
-            let [one_shot, one_to_one, fan_out, fan_in] =
-                verdict(&document, channel).expect("least tables keep the rules");
-            assert_eq!(one_to_one, fan_out && fan_in);
-            assert!(!one_shot || fan_out);
-            assert!(word_holds(
-                Word::Many,
-                [one_shot, one_to_one, fan_out, fan_in]
-            ));
-        }
-    }
+    assert_eq!(tally.verdicts.len(), 7, "{:?}", tally.verdicts);
 }

@@ -137,10 +137,10 @@ fn row_limit(random: &mut Random) -> Vec<u8> {
 
 /// Any bytes, mostly pieces of lines, after the header more often than not.
 fn pieces(random: &mut Random) -> Vec<u8> {
-    const PIECES: [&str; 24] = [
+    const PIECES: [&str; 25] = [
         "[", "]", " ", "\n", "0", "1", "9", "15", "16", "u", "[row 0 ", "[row 1 ", "[bind ",
         "[result ", "[unit]", "[chan]", "[flow ", "[comm ", "[claim ", "many", "]]\n", "]\n",
-        "[u]", "[case ",
+        "[u]", "[case ", "one-sync",
     ];
     let mut file = Vec::new();
     let length = random.below(200);

@@ -6,7 +6,7 @@ use crate::generate::{
     accepted_document, claim_anything, full_document, hearing, loadable_document, loose_document,
     sharing, takers, unwinding, widen, Random, Size, Tables,
 };
-use crate::layout::{encode, STORE_SIZE};
+use crate::layout::{claim_place, encode, STORE_SIZE};
 use crate::reference::document::{Document, LAST_NUMBER};
 use crate::reference::print::print;
 
@@ -100,7 +100,7 @@ fn hardest_document(random: &mut Random) -> Document {
 /// A byte that may stand somewhere in a store, or any.
 fn likely_byte(random: &mut Random) -> u8 {
     const LAST: u8 = LAST_NUMBER as u8;
-    const LIKELY: [u8; 14] = [0, 1, 1, 2, 3, 4, 5, 6, 11, 15, 16, LAST, LAST + 1, 255];
+    const LIKELY: [u8; 15] = [0, 1, 1, 2, 3, 4, 5, 6, 7, 11, 15, 16, LAST, LAST + 1, 255];
     if random.chance(1, 4) {
         random.below(256) as u8
     } else {
@@ -114,9 +114,10 @@ pub fn draw_store(random: &mut Random, kind: StoreKind) -> Vec<u8> {
         StoreKind::Loaded => draw_loaded(random),
         StoreKind::OneByte => {
             let mut store = draw_loaded(random);
-            let offset = match random.below(4) {
+            let offset = match random.below(5) {
                 0 => STORE_SIZE - 1 - random.below(4),
                 1 => random.below(400),
+                2 => claim_place(random.below(40)),
                 _ => random.below(STORE_SIZE),
             };
             store[offset] = likely_byte(random);

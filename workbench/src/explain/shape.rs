@@ -13,7 +13,7 @@ const KINDS: [&str; 4] = ["row", "flow", "comm", "claim"];
 
 /// The shapes of lines after the header: `#` is a number, `*` the inside of a
 /// set.
-const SHAPES: [&str; 22] = [
+const SHAPES: [&str; 23] = [
     "[row # [result #]]",
     "[row # [bind # [unit] #]]",
     "[row # [bind # [chan] #]]",
@@ -35,6 +35,7 @@ const SHAPES: [&str; 22] = [
     "[claim # one-to-one]",
     "[claim # fan-out]",
     "[claim # fan-in]",
+    "[claim # one-sync]",
     "[claim # many]",
 ];
 

@@ -81,6 +81,10 @@ pub fn breaking_walks(document: &Document, channel: usize, word: Word) -> Option
         Word::OneToOne => parted(End::Send).or_else(|| parted(End::Receive)),
         Word::FanOut => parted(End::Send),
         Word::FanIn => parted(End::Receive),
+        Word::OneSync => parted(End::Send)
+            .or_else(|| parted(End::Receive))
+            .or_else(|| nested(End::Send))
+            .or_else(|| nested(End::Receive)),
         Word::Many => None,
     }
 }
@@ -143,8 +147,8 @@ pub fn claim(document: &Document, line: usize) -> Option<Explanation> {
         End::Receive => "receive",
     };
     let meaning = match claim.word {
-        Word::OneShot => "at most one send",
-        _ => "no two threads that do so",
+        Word::OneShot | Word::OneSync => format!("at most one {act}"),
+        _ => "no two threads that do so".to_string(),
     };
     let (word, channel) = (claim.word.text(), claim.channel);
     let ends = if end == other_end {

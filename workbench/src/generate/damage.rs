@@ -156,8 +156,9 @@ pub fn edit_lines(random: &mut Random, file: Vec<u8>) -> Vec<u8> {
             lines[at].push(b'\n');
         }
         11 => {
-            let words: [(&str, &str); 8] = [
-                ("one-shot", "one-sync"),
+            let words: [(&str, &str); 9] = [
+                ("one-shot", "one-syn"),
+                ("one-sync", "one-synch"),
                 ("fan-in", "fan-inn"),
                 ("many", "none"),
                 ("[flow", "[comm"),
@@ -194,7 +195,7 @@ fn crafted_line(random: &mut Random) -> Vec<u8> {
         }
     };
     let (a, b, c, d) = (number(), number(), number(), number());
-    let line = match random.below(12) {
+    let line = match random.below(13) {
         0 => "[dispenser 1]".to_string(),
         1 => String::new(),
         2 => format!("[row {a} [result {b}]]"),
@@ -206,6 +207,7 @@ fn crafted_line(random: &mut Random) -> Vec<u8> {
         8 => format!("[comm {a} [{b} {c} {d}]]"),
         9 => format!("[claim {a} many]"),
         10 => format!("[claim {a} fan-out]"),
+        11 => format!("[claim {a} one-sync]"),
         _ => format!("[flow {a} [{b} u]]"),
     };
     format!("{line}\n").into_bytes()

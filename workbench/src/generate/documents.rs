@@ -53,18 +53,19 @@ pub fn loose_document(random: &mut Random, size: Size) -> Document {
     document
 }
 
-/// The first of some documents in which a channel's verdict has a no, or the
-/// last of them.
+/// The first of some documents in which a channel's verdict has a no for a word
+/// drawn at random, or the last of them.
 pub fn contested(
     random: &mut Random,
     size: Size,
     generate: impl Fn(&mut Random, Size) -> Document,
 ) -> Document {
+    let word = random.below(Word::OF_VERDICT.len());
     let mut document = generate(random, size);
     for _ in 0..8 {
         let pairs = counted_pairs(&document);
-        let mut channels = document.chan_rows().into_iter();
-        if channels.any(|channel| verdict_of(&pairs, &places(&document, channel)) != [true; 4]) {
+        let no = |channel| !verdict_of(&pairs, &places(&document, channel))[word];
+        if document.chan_rows().into_iter().any(no) {
             break;
         }
         document = generate(random, size);
@@ -92,6 +93,10 @@ pub fn claim_truly(random: &mut Random, document: &mut Document) {
         if words.len() > 1 && random.chance(5, 6) {
             words.retain(|&word| word != Word::Many);
         }
+        // `one-sync` holds of few channels: drawn more often where it does.
+        if words.contains(&Word::OneSync) && random.chance(1, 2) {
+            words = vec![Word::OneSync];
+        }
         let word = random.pick(&words).copied();
         word.filter(|_| random.chance(7, 8))
     });
@@ -101,7 +106,7 @@ pub fn claim_truly(random: &mut Random, document: &mut Document) {
 pub fn claim_falsely(random: &mut Random, document: &mut Document) {
     claim_by_verdict(document, |verdict| {
         let mut words = Word::ALL.to_vec();
-        if random.chance(2, 3) && verdict != [true; 4] {
+        if random.chance(2, 3) && verdict.contains(&false) {
             words.retain(|&word| !word_holds(word, verdict));
         }
         random.pick(&words).copied()

@@ -348,18 +348,25 @@ pub enum Word {
     OneToOne,
     FanOut,
     FanIn,
+    OneSync,
     Many,
 }
 
 impl Word {
-    /// All words, the four of a verdict first and in its order.
-    pub const ALL: [Word; 5] = [
+    /// The words of a verdict, in its order.
+    pub const OF_VERDICT: [Word; 5] = [
         Word::OneShot,
         Word::OneToOne,
         Word::FanOut,
         Word::FanIn,
-        Word::Many,
+        Word::OneSync,
     ];
+
+    /// All words, those of a verdict first.
+    pub const ALL: [Word; 6] = {
+        let [a, b, c, d, e] = Word::OF_VERDICT;
+        [a, b, c, d, e, Word::Many]
+    };
 
     /// The word as it stands in a file.
     pub fn text(self) -> &'static str {
@@ -368,6 +375,7 @@ impl Word {
             Word::OneToOne => "one-to-one",
             Word::FanOut => "fan-out",
             Word::FanIn => "fan-in",
+            Word::OneSync => "one-sync",
             Word::Many => "many",
         }
     }

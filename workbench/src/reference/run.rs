@@ -1,6 +1,7 @@
 //! Runs: pools of paths, steps, and the histories of instances.
 //!
-//! Renders "Run rules (001, section 3)" rule by rule.
+//! Renders "Run rules (001, section 3)" rule by rule, and of No. 4 of document 02
+//! "a history holds at most one path at sends and at most one at receives".
 
 use std::collections::BTreeMap;
 use std::rc::Rc;
@@ -375,10 +376,11 @@ pub fn histories(document: &Document, pool: &Pool) -> BTreeMap<Rc<Instance>, His
 /// Whether a history fits a word.
 pub fn fits(history: &History, word: Word) -> bool {
     match word {
-        Word::OneShot => all_pairs(&history.sends, |one, other| one == other),
+        Word::OneShot => all_pairs(&history.sends, Path::eq),
         Word::FanOut => all_pairs(&history.sends, one_begins_other),
         Word::FanIn => all_pairs(&history.receives, one_begins_other),
         Word::OneToOne => fits(history, Word::FanOut) && fits(history, Word::FanIn),
+        Word::OneSync => fits(history, Word::OneShot) && all_pairs(&history.receives, Path::eq),
         Word::Many => true,
     }
 }

@@ -2,7 +2,10 @@
 //!
 //! Renders from "Walks and claims": "A send place of channel row c is a sync
 //! row with a send row in V(E) whose C has c in its set; receive places alike"
-//! and the meaning of the claim words "over pairs that can share a run".
+//! and the meaning of the claim words "over pairs that can share a run". Renders
+//! No. 4 of document 02: "The claim word `one-sync` holds if one-shot does and,
+//! over pairs of walks that can share a run, two walks ending at receive places
+//! are the same walk."
 //!
 //! Two different walks that can share a run end at rows p and q in one of two
 //! ways: one properly begins the other, so p is reached from row 0 and q from p
@@ -15,8 +18,8 @@ use super::document::{Document, Form, Word};
 use super::flow::chan_rows_in;
 use super::steps::{reached_from, steps};
 
-/// Four yes or no: one-shot, one-to-one, fan-out, fan-in.
-pub type Verdict = [bool; 4];
+/// Five yes or no: one-shot, one-to-one, fan-out, fan-in, one-sync.
+pub type Verdict = [bool; 5];
 
 /// The places of a channel.
 #[derive(Clone, Debug, Default, PartialEq, Eq)]
@@ -93,11 +96,16 @@ pub fn counted_pairs(document: &Document) -> EndPairs {
 
 /// The verdict on places, over the pairs of walks that count.
 pub fn verdict_of(pairs: &EndPairs, places: &Places) -> Verdict {
-    let one_shot =
-        !any_pair(&pairs.nested, &places.sends) && !any_pair(&pairs.parted, &places.sends);
+    let one_shot = all_the_same(pairs, &places.sends);
     let fan_out = !any_pair(&pairs.parted, &places.sends);
     let fan_in = !any_pair(&pairs.parted, &places.receives);
-    [one_shot, fan_out && fan_in, fan_out, fan_in]
+    let one_sync = one_shot && all_the_same(pairs, &places.receives);
+    [one_shot, fan_out && fan_in, fan_out, fan_in, one_sync]
+}
+
+/// Whether two walks that count and end in the set are the same walk.
+fn all_the_same(pairs: &EndPairs, rows: &BTreeSet<usize>) -> bool {
+    !any_pair(&pairs.nested, rows) && !any_pair(&pairs.parted, rows)
 }
 
 /// Whether a grid holds a pair of rows both in the set.
@@ -113,12 +121,13 @@ pub fn verdict(document: &Document, channel: usize) -> Verdict {
 
 /// Whether a claim word holds by a verdict.
 pub fn word_holds(word: Word, verdict: Verdict) -> bool {
-    let [one_shot, one_to_one, fan_out, fan_in] = verdict;
+    let [one_shot, one_to_one, fan_out, fan_in, one_sync] = verdict;
     match word {
         Word::OneShot => one_shot,
         Word::OneToOne => one_to_one,
         Word::FanOut => fan_out,
         Word::FanIn => fan_in,
+        Word::OneSync => one_sync,
         Word::Many => true,
     }
 }

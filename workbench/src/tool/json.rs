@@ -47,7 +47,7 @@ pub fn line(file: &str, outcome: &Outcome) -> String {
 
 fn channel(channel: &Channel) -> String {
     let null = || "null".to_string();
-    let words = Word::ALL.iter().zip(channel.verdict);
+    let words = Word::OF_VERDICT.iter().zip(channel.verdict);
     let verdict = words.map(|(word, holds)| (word.text(), holds.to_string()));
     object(vec![
         ("row", channel.row.to_string()),

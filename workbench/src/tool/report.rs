@@ -70,7 +70,7 @@ fn table(channels: &[Channel], colours: bool) -> String {
     if channels.is_empty() {
         return "  it has no channel\n".to_string();
     }
-    let words = &Word::ALL[..4];
+    let words = Word::OF_VERDICT;
     let mut text = format!("  {:<8}{:<6}{:<12}", "channel", "name", "claim");
     for word in words {
         text += &format!("{:<12}", word.text());
@@ -160,7 +160,7 @@ mod tests {
             row: 1,
             name: Some(7),
             claim: None,
-            verdict: [true, false, true, true],
+            verdict: [true, false, true, false, false],
         };
         let outcome = Outcome::Accepted {
             claims: 0,
