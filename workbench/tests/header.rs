@@ -5,7 +5,7 @@ use std::io::Write;
 use std::path::{Path, PathBuf};
 use std::process::{Command, Stdio};
 
-use workbench::samples::{a_with, A, UNPACKING};
+use workbench::samples::{a_with, A, TWO_RECEIVERS, TWO_RECEIVES, TWO_SENDERS, UNPACKING};
 
 /// A file of the repository.
 fn of_repository(name: &str) -> PathBuf {
@@ -107,6 +107,25 @@ fn refused_run_calls_leave_every_byte() {
         "no such cell 22 same",
     ];
     assert_eq!(text.lines().collect::<Vec<_>>(), expected);
+}
+
+#[test]
+fn a_caller_in_c_reads_the_five_words_of_a_verdict() {
+    let program = program("verdicts");
+    for (file, expected) in [
+        (
+            A,
+            "row 1: one-shot one-to-one fan-out fan-in one-sync above 0\n",
+        ),
+        (
+            TWO_RECEIVES,
+            "row 0: one-shot one-to-one fan-out fan-in above 0\n",
+        ),
+        (TWO_RECEIVERS, "row 0: one-shot fan-out above 0\n"),
+        (TWO_SENDERS, "row 0: fan-in above 0\n"),
+    ] {
+        assert_eq!(run(&program, file), (Some(0), expected.to_string()));
+    }
 }
 
 #[test]

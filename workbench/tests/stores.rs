@@ -7,11 +7,11 @@ use workbench::differential::{
     compare_load, compare_store, draw_store, loaded_store, telling_numbers, Lent, StoreKind, Tally,
 };
 use workbench::generate::{claim_truly, contested, least_document, Random, Size};
-use workbench::layout::{decode, STORE_SIZE};
+use workbench::layout::{claim_place, decode, STORE_SIZE};
 use workbench::reference::check;
-use workbench::reference::document::{Document, MAX_FILE_BYTES};
+use workbench::reference::document::{Document, LAST_NUMBER, MAX_FILE_BYTES};
 use workbench::reference::print::print;
-use workbench::samples::{A, TWO_SENDERS};
+use workbench::samples::{A, RECEIPT, TWO_SENDERS};
 
 /// Compares so many stores of a kind; judge must have given each number, and
 /// infer was refused as often as judge was for the store's sake.
@@ -136,6 +136,28 @@ fn every_byte_of_the_first_rows() {
     }
     for call in ["judge", "infer"] {
         assert!(tally.count(call, 0) > 100 && tally.count(call, 22) > 10_000);
+    }
+}
+
+#[test]
+fn every_code_of_a_claim() {
+    let mut store = loaded_store(&check::load(RECEIPT.as_bytes()).unwrap());
+    let mut tally = Tally::default();
+    // Two chan rows, both claimed, two other rows, and two that are absent.
+    for row in [0, 1, 2, 13, 14, LAST_NUMBER] {
+        let code = store[claim_place(row)];
+        for changed in 0..=255 {
+            store[claim_place(row)] = changed;
+            let expected = match (row, changed) {
+                (0 | 1, 0) => 1 << 8,
+                (0 | 1, 1..=6) | (_, 0) => 2 << 8,
+                _ => 22,
+            };
+            assert_eq!(ffi::judge(&store), expected, "{changed} at row {row}");
+            compare_store(&store, &[row], &mut tally)
+                .unwrap_or_else(|what| panic!("{changed} at row {row}: {what}"));
+        }
+        store[claim_place(row)] = code;
     }
 }
 

@@ -1,0 +1,29 @@
+/* Loads the file that is standard input and prints of each row that has a verdict
+ * its five words, read as the header says, and what stands above them. */
+#include <stdio.h>
+#include <stdlib.h>
+
+#include "dispenser.h"
+
+int main(void) {
+    static uint8_t file[32769];
+    static const char *const words[] = {"one-shot", "one-to-one", "fan-out", "fan-in", "one-sync"};
+    size_t length = fread(file, 1, sizeof file, stdin);
+    size_t size = dispenser_store_size();
+    uint8_t *store = malloc(size);
+    if (!store) return 2;
+
+    uint64_t answer = dispenser_load(file, length, store, size);
+    if ((answer & 0xff) != 0) return 1;
+    size_t rows = (size_t)(answer >> 8 & 0xff);
+    for (size_t row = 0; row < rows; row++) {
+        answer = dispenser_verdict(store, size, row);
+        if ((answer & 0xff) != 0) continue;
+        printf("row %zu:", row);
+        for (int word = 0; word < 5; word++)
+            if (answer >> (8 + word) & 1) printf(" %s", words[word]);
+        printf(" above %d\n", (int)(answer >> 13));
+    }
+    free(store);
+    return 0;
+}
