@@ -3,8 +3,11 @@
 
 use workbench::checker::{Reason, Refusal, Store};
 use workbench::differential::{draw_file, FileKind};
-use workbench::generate::Random;
+use workbench::generate::{chain, Random};
 use workbench::reference::check;
+use workbench::reference::document::{Claim, Word, NUMBER_LIMIT};
+use workbench::reference::infer::infer;
+use workbench::reference::print::print;
 use workbench::samples::{A, RECEIPT, SERVER, TWO_RECEIVERS, TWO_RECEIVES, TWO_SENDERS};
 
 /// What stands in the output before a report, so that each byte is seen.
@@ -41,6 +44,20 @@ fn drawn_files_have_the_reports_of_the_reference() {
         let file = draw_file(&mut random, kind);
         assert_report(&file);
     }
+}
+
+#[test]
+fn the_longest_report_is_written() {
+    // As many channels as there can be, all claimed, and every word yes.
+    let mut document = infer(&chain(NUMBER_LIMIT));
+    let word = Word::OneSync;
+    let claims = document.chan_rows().into_iter();
+    document.claims = claims.map(|channel| Claim { channel, word }).collect();
+    let file = print(&document);
+    assert_report(&file);
+    let report = check::report(&file);
+    assert!(report.starts_with("[accepted 159]\n"));
+    assert_eq!(report.matches(" [yes yes yes yes yes]]\n").count(), 159);
 }
 
 #[test]
