@@ -1,10 +1,9 @@
 // The words of a claim: the word of its code in the store, and what a word says, by what is found at the two ends of a channel.
-use program::Ends;
 use program::Facts;
 use program::Word;
 ghost use mathlib.Core.Bool.{not, _&&_};
 ghost use mathlib.Core.Path.{_≡_};
-ghost use Rattle.program.specs.Verdict.{once, says};
+ghost use Rattle.program.specs.Verdict.{says};
 ghost use Rattle.calls.specs.Layout.{wordOf};
 
 // The word of a claim's code in the store; every code but these five is that of many.
@@ -31,13 +30,6 @@ fn neither(a: bool, b: bool) -> bool
     !b
 }
 
-// Of the walks that come to an end's places any two are the same.
-fn once(end: Ends) -> bool
-    ensures { λ r. ⌜ r ≡ once end ⌝ }
-{
-    neither(end.twice, end.rivals)
-}
-
 // What a word says, by what is found at the two ends of a channel.
 pub fn says(word: Word, found: Facts) -> bool
     ensures { λ b. ⌜ b ≡ says word found ⌝ }
@@ -45,14 +37,14 @@ pub fn says(word: Word, found: Facts) -> bool
     let sends = found.sends;
     let receives = found.receives;
     match word {
-        Word::OneShot => once(sends),
+        Word::OneShot => neither(sends.twice, sends.rivals),
         Word::OneToOne => neither(sends.rivals, receives.rivals),
         Word::FanOut => !sends.rivals,
         Word::FanIn => !receives.rivals,
         Word::Many => true,
         Word::OneSync => {
-            if once(sends) {
-                return once(receives);
+            if neither(sends.twice, sends.rivals) {
+                return neither(receives.twice, receives.rivals);
             }
             false
         }
