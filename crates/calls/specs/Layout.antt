@@ -75,6 +75,7 @@ flagsOf ms = counting memberLimit 0 λ m. pick (elem m ms) 1 0
 unfoldable pub setsBytes : List Entry → Bytes
 setsBytes es = collect (λ n. flagsOf (membersAt es n)) (counting rowLimit 0 λ n. n)
 
+-- a word that came later has a later code, so that stores of before mean what they meant
 unfoldable pub wordCode : Word → ℕ
 wordCode OneShot = 1
 wordCode OneToOne = 2

@@ -291,7 +291,7 @@ unfolding standing bothReceive apartSteps parent child
 receivers-break =
     two-receivers (bothReceive .rows) (run (bothReceive .rows) apartSteps) jam parent child parted (at-receive _ _ _ parent refl) (at-receive _ _ _ child refl)
 
--- the parent's two receives, one after the other, break one-sync
+-- the steps of one in which a parent receives twice, up to its second receive
 turnSteps : List Step
 turnSteps =
     own ε ∷ own (ε ▷ next 0) ∷ own (ε ▷ next 0 ▷ next 1) ∷ own (ε ▷ next 0 ▷ next 1 ▷ next 2) ∷ own (ε ▷ next 0 ▷ next 1 ▷ spawn 2)
@@ -304,6 +304,7 @@ secondReceive : Path
 unfolding firstReceive
 secondReceive = firstReceive ▷ next 6
 
+-- its history breaks one-sync
 turn-breaks : ¬ (HistoryFits (receivesInTurn .rows) (run (receivesInTurn .rows) turnSteps) jam OneSync)
 unfolding standing receivesInTurn turnSteps secondReceive ℕ-discrete
 turn-breaks = two-receives (receivesInTurn .rows) (run (receivesInTurn .rows) turnSteps) jam firstReceive secondReceive refl (at-receive _ _ _ firstReceive refl) (at-receive _ _ _ secondReceive refl)

@@ -10,7 +10,8 @@ module _ {A : Type 0} (judged : Snoc A → Snoc A → Type 0) where
   abbrev pub EveryTwo : (Snoc A → Type 0) → (Snoc A → Snoc A → Type 0) → Type 0
   EveryTwo ends R = (x y : Snoc A) → judged x y → ends x → ends y → R x y
 
-  -- one-shot: any two sends are the same; fan-out: of any two sends one begins the other; fan-in: the same of receives; one-to-one: fan-out and fan-in; many: always; one-sync: one-shot, and any two receives are the same (document 02, No. 4)
+  -- one-shot: any two sends are the same; fan-out: of any two sends one begins the other; fan-in: the same of receives; one-to-one: fan-out and fan-in; many: always;
+  -- of document 02, one-sync: one-shot, and any two receives are the same
   unfoldable pub Fits : Word → (Snoc A → Type 0) → (Snoc A → Type 0) → Type 0
   Fits OneShot sends receives = EveryTwo sends (λ x y. x ≡ y)
   Fits OneToOne sends receives = EveryTwo sends Ordered × EveryTwo receives Ordered
