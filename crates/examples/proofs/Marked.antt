@@ -56,9 +56,9 @@ inTurn : map (λ c. tried (file (linesInTurn c))) ("[claim 1 fan-out]" ∷ "[cla
 unfolding tried variant linesInTurn
 inTurn = refl
 
--- one-sync: of A it holds; of A whose child receives once more behind the first time, it does not, though one-to-one does
-linesTwice : String → List String
-linesTwice claim =
+-- one-sync: of A it holds; of A whose child receives once more behind the first time, it does not
+linesTwice : List String
+linesTwice =
     "[dispenser 1]" ∷
     "[row 0 [bind 0 [unit] 1]]" ∷
     "[row 1 [bind 1 [chan] 2]]" ∷
@@ -79,10 +79,10 @@ linesTwice claim =
     "[flow 6 [u]]" ∷
     "[flow 7 [u]]" ∷
     "[comm 1 [u]]" ∷
-    claim ∷
+    "[claim 1 one-sync]" ∷
     []
 
-oneSync : map tried (variant 19 ("[claim 1 one-sync]" ∷ []) ∷ file (linesTwice "[claim 1 one-to-one]") ∷ file (linesTwice "[claim 1 one-sync]") ∷ [])
-    ≡ ((answered (9 ∷ 7 ∷ 1 ∷ 1 ∷ []) ∷ answered (1 ∷ []) ∷ []) ∷ (answered (10 ∷ 8 ∷ 1 ∷ 1 ∷ []) ∷ answered (1 ∷ []) ∷ []) ∷ (answered (10 ∷ 8 ∷ 1 ∷ 1 ∷ []) ∷ turnedBack 11 21 ∷ []) ∷ [])
+oneSync : map tried (variant 19 ("[claim 1 one-sync]" ∷ []) ∷ file linesTwice ∷ [])
+    ≡ ((answered (9 ∷ 7 ∷ 1 ∷ 1 ∷ []) ∷ answered (1 ∷ []) ∷ []) ∷ (answered (10 ∷ 8 ∷ 1 ∷ 1 ∷ []) ∷ turnedBack 11 21 ∷ []) ∷ [])
 unfolding tried variant linesTwice
 oneSync = refl

@@ -136,10 +136,6 @@ fn try_one_sync() {
         b"[dispenser 1]\n[row 0 [bind 0 [chan] 1]]\n[row 1 [bind 1 [recv 0] 2]]\n[row 2 [bind 2 [send 0 0] 3]]\n[row 3 [bind 3 [spawn 4] 6]]\n[row 4 [bind 4 [sync 2] 5]]\n[row 5 [result 4]]\n[row 6 [bind 5 [sync 1] 7]]\n[row 7 [bind 6 [sync 1] 8]]\n[row 8 [result 6]]\n[flow 0 [0]]\n[flow 1 [1]]\n[flow 2 [2]]\n[flow 3 [u]]\n[flow 4 [u]]\n[flow 5 [0]]\n[flow 6 [0]]\n[comm 0 [0]]\n",
     );
     try_report(
-        b"the same, claimed one-to-one",
-        b"[dispenser 1]\n[row 0 [bind 0 [chan] 1]]\n[row 1 [bind 1 [recv 0] 2]]\n[row 2 [bind 2 [send 0 0] 3]]\n[row 3 [bind 3 [spawn 4] 6]]\n[row 4 [bind 4 [sync 2] 5]]\n[row 5 [result 4]]\n[row 6 [bind 5 [sync 1] 7]]\n[row 7 [bind 6 [sync 1] 8]]\n[row 8 [result 6]]\n[flow 0 [0]]\n[flow 1 [1]]\n[flow 2 [2]]\n[flow 3 [u]]\n[flow 4 [u]]\n[flow 5 [0]]\n[flow 6 [0]]\n[comm 0 [0]]\n[claim 0 one-to-one]\n",
-    );
-    try_report(
         b"the same, claimed one-sync",
         b"[dispenser 1]\n[row 0 [bind 0 [chan] 1]]\n[row 1 [bind 1 [recv 0] 2]]\n[row 2 [bind 2 [send 0 0] 3]]\n[row 3 [bind 3 [spawn 4] 6]]\n[row 4 [bind 4 [sync 2] 5]]\n[row 5 [result 4]]\n[row 6 [bind 5 [sync 1] 7]]\n[row 7 [bind 6 [sync 1] 8]]\n[row 8 [result 6]]\n[flow 0 [0]]\n[flow 1 [1]]\n[flow 2 [2]]\n[flow 3 [u]]\n[flow 4 [u]]\n[flow 5 [0]]\n[flow 6 [0]]\n[comm 0 [0]]\n[claim 0 one-sync]\n",
     );
