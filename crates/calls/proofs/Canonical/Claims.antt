@@ -7,10 +7,8 @@ use mathlib.Core.List.{List, [], _∷_, map}
 use mathlib.Core.Path.{_≡_, refl, sym}
 use mathlib.Core.Logic.{_↔_}
 use lib.ListN.{length, getD}
-use lib.Dec.{ltb, eqb, lit<}
+use lib.Dec.{ltb, eqb}
 use borrow.Author.Tests.{eqb-true, eq-eqb, ne-eqb}
-use Rattle.program.specs.declared.Word.{Word}
-use Rattle.program.specs.declared.Word.the-variants.{OneShot, OneToOne, FanOut, FanIn, Many, OneSync}
 use Rattle.program.specs.Each.{every, Each, nil, _&_}
 use Rattle.program.proofs.Each.{each-imp, each-map}
 use Rattle.format.specs.Limits.{rowLimit}
@@ -19,6 +17,7 @@ use Rattle.format.specs.Document.{Claim, claim}
 use Rattle.format.specs.Read.{rising, lineNumbers, aboveLimit}
 use Rattle.calls.specs.Layout.{counting, wordCode, wordOf, codeLimit, claimCode, decodeClaims}
 use Rattle.calls.proofs.Codec.Sparse.{either, counting-each, Within}
+use Rattle.calls.proofs.Codec.Claims.{code-range}
 use Rattle.calls.proofs.Canonical.Lists.{every-intro, counting-is, within-skip, within-cons, within-below, low-line, below-iff}
 
 abbrev channelOf : Claim → ℕ
@@ -64,21 +63,6 @@ code-again c (k ∷ ks) (l & h) (suc j) =
 
 claims-again : (n : ℕ) (ks : Bytes) → length ks ≡ n → Each (λ b. b < codeLimit) ks → counting n 0 (claimCode (decodeClaims 0 ks)) ≡ ks
 claims-again n ks e h = counting-is n 0 _ 0 ks e (code-again 0 ks h)
-
-word-range : (w : Word) → wordCode w < codeLimit
-unfolding wordCode
-word-range OneShot = lit< tt
-word-range OneToOne = lit< tt
-word-range FanOut = lit< tt
-word-range FanIn = lit< tt
-word-range Many = lit< tt
-word-range OneSync = lit< tt
-
-code-range : (ks : List Claim) (c : ℕ) → claimCode ks c < codeLimit
-unfolding claimCode
-code-range [] c = lit< tt
-code-range (k ∷ ks) c =
-    either (eqb c (k .channel)) (λ e. rw (e, claimCode) (word-range (k .word))) (λ e. rw (e, claimCode) (code-range ks c))
 
 -- the test of the claims' part
 pub claims-iff : (n : ℕ) (ks : Bytes) → length ks ≡ n → So (every (λ b. ltb b codeLimit) ks) ↔ (counting n 0 (claimCode (decodeClaims 0 ks)) ≡ ks)

@@ -14,7 +14,7 @@ use Rattle.program.specs.Each.{Each}
 use Rattle.program.proofs.Each.{each-imp}
 use Rattle.format.specs.Document.{Claim}
 use Rattle.format.specs.Read.{rising}
-use Rattle.calls.specs.Layout.{counting, wordCode, wordOf, claimCode, decodeClaims}
+use Rattle.calls.specs.Layout.{counting, wordCode, wordOf, codeLimit, claimCode, decodeClaims}
 use Rattle.calls.proofs.Codec.Sparse.{either, counting-each, gather, lookup, gather-back}
 use Rattle.calls.proofs.Codec.Rows.{Byte}
 
@@ -44,7 +44,7 @@ pub word-other : (k : ℕ) → (k ≡ 1 → ⊥) → (k ≡ 2 → ⊥) → (k �
 unfolding wordOf
 word-other k a b c d e = rw (ne-eqb k 1 a, ne-eqb k 2 b, ne-eqb k 3 c, ne-eqb k 4 d, ne-eqb k 6 e)
 
-word-range : (w : Word) → Byte (wordCode w)
+word-range : (w : Word) → wordCode w < codeLimit
 unfolding wordCode
 word-range OneShot = lit< tt
 word-range OneToOne = lit< tt
@@ -61,14 +61,14 @@ claim-lookup (k ∷ ks) c =
     (λ e. rw (e, claimCode, eqb-true c (k .channel) e) (claim-of-word (k .word) (k .channel)))
     (λ e. rw (e, claimCode) (claim-lookup ks c))
 
-code-range : (ks : List Claim) (c : ℕ) → Byte (claimCode ks c)
+pub code-range : (ks : List Claim) (c : ℕ) → claimCode ks c < codeLimit
 unfolding claimCode
 code-range [] c = lit< tt
 code-range (k ∷ ks) c =
     either (eqb c (k .channel)) (λ e. rw (e, claimCode) (word-range (k .word))) (λ e. rw (e, claimCode) (code-range ks c))
 
 pub claims-range : (n : ℕ) (ks : List Claim) → Each Byte (counting n 0 (claimCode ks))
-claims-range n ks = counting-each n 0 (claimCode ks) (code-range ks)
+claims-range n ks = counting-each n 0 (claimCode ks) (λ c. omega (arith, code-range ks c))
 
 pub claims-back : (n : ℕ) (ks : List Claim) → Each (λ k. k .channel < n) ks → So (rising (map (λ (k : Claim). k .channel) ks))
     → decodeClaims 0 (counting n 0 (claimCode ks)) ≡ ks
