@@ -15,8 +15,8 @@ use Rattle.calls.specs.declared.Counts.{Counts}
 use Rattle.calls.specs.declared.LoadAnswer.{LoadAnswer}
 use Rattle.calls.specs.Layout.{storeSize, encode, decode}
 use Rattle.calls.specs.Canonical.{countRows}
-use Rattle.calls.specs.Calls.{Leaves, opened, refilled}
-use Rattle.inference.specs.Inference.{smallestDocument, inferred, infer}
+use Rattle.calls.specs.Calls.{Leaves, opened, refilled, loaded, stored, andThen}
+use Rattle.inference.specs.Inference.{smallestDocument, infer}
 use Rattle.calls.proofs.Codec.{encode-length, decode-encode}
 use Rattle.calls.proofs.Calls.{opened-is}
 use Rattle.inference.proofs.Inference.{smallest-well}
@@ -39,7 +39,7 @@ module _ (store : Bytes) where
   fixed = take storeSize store
 
   pub refused-store : (r : Refusal) → OpenedIs (opened store) fixed (Opened.Refused r) → Leaves (infer store) (LoadAnswer.Refused r) store
-  unfolding infer inferred
+  unfolding infer stored andThen
   refused-store r h = rw (refused-is fixed (opened store) r h) (record { answer-is = refl; bytes-are = refl })
 
   module _ (n : ℕ) (o : OpenedIs (opened store) fixed (Opened.Rows n)) where
@@ -56,7 +56,7 @@ module _ (store : Bytes) where
     size-left left h = let l = long-left left h in simp length-take (omega arith)
 
     pub left-store : (left : Bytes) (c : Counts) → Least n store left → c ≡ storeCounts n (take storeSize left) → Leaves (infer store) (LoadAnswer.Loaded c) left
-    unfolding infer inferred refilled
+    unfolding infer stored loaded andThen refilled
     left-store left c h e =
         let d : Document = decode fixed in
         let d′ = smallestDocument d in

@@ -37,7 +37,7 @@ use Rattle.calls.specs.declared.WriteAnswer.{WriteAnswer}
 use Rattle.calls.specs.declared.VerdictStatus.{VerdictStatus}
 use Rattle.calls.specs.Layout.{storeSize, encode, decode, same}
 use Rattle.calls.specs.Judging.{verdictWords, flowTable, commTable, wordHolds, WordHolds, reaches, failingRow, after10, judgeDocument, verdictDocument}
-use Rattle.calls.specs.Calls.{Outcome, unsound, isEmpty, openedFixed, opened, counts, refilled, loaded, load, judgeAnswered, andThen, judge, verdictOf, verdictGiven, verdict, written, write}
+use Rattle.calls.specs.Calls.{Outcome, unsound, isEmpty, openedFixed, opened, counts, refilled, loaded, stored, load, judgeAnswered, andThen, judge, verdictOf, verdictGiven, verdict, written, write}
 use Rattle.calls.proofs.Codec.{encode-length, decode-encode, unsound-iff, opened-encode}
 use Rattle.calls.proofs.Judging.{rows-well, row-iff, accepts-iff}
 use Rattle.calls.specs.Exact.{RowKeeps}
@@ -129,6 +129,26 @@ opened-loaded d w rest =
     let n : length (encode d) ≡ storeSize = encode-length d (orderly-of d w) in
     let l : storeSize ≤ length (encode d ++ rest) = omega (arith, length-append (encode d) rest) in
     rw (le-ltb (length (encode d ++ rest)) storeSize l, opened) (ap openedFixed (take-at (encode d) rest storeSize n) ∙ opened-encode d w)
+
+-- ---- a call that leaves another document in the store
+
+module _ (store : Bytes) where
+  pub stored-refused : (r : Refusal) → stored store (refused r) ≡ record { answer = LoadAnswer.Refused r; bytes = store }
+  unfolding stored
+  stored-refused r = refl
+
+  pub stored-is : (d : Document) → stored store (accepted d) ≡ record { answer = LoadAnswer.Loaded (counts d); bytes = encode d ++ drop storeSize store }
+  unfolding stored loaded refilled
+  stored-is d = refl
+
+  -- it opens again
+  pub stored-opens : (d : Document) → So (wellFormed d) → opened (stored store (accepted d) .bytes) ≡ accepted d
+  stored-opens d w = ap (λ (o : Outcome LoadAnswer). opened (o .bytes)) (stored-is d) ∙ opened-loaded d w (drop storeSize store)
+
+  -- "the counts that load would on the outcome's text, were there no length limit", and the bytes too
+  pub stored-loads : (d : Document) → So (wellFormed d) → stored store (accepted d) ≡ loaded store (checkAny (documentText d))
+  unfolding stored
+  stored-loads d w = ap (loaded store) (sym (check-any-iff (documentText d) d .1 (refl, w)))
 
 -- and only such a store does
 pub record Opened (store : Bytes) (d : Document) : Type 0 where

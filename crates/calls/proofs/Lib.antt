@@ -1,6 +1,7 @@
 -- Theorems about the definitions of specs/.
 pub mod Codec
 pub mod Canonical
+pub mod Names
 pub mod Judging
 pub mod Calls
 pub mod Exact

@@ -75,6 +75,11 @@ unfoldable pub loaded : Bytes → Result Document → Outcome LoadAnswer
 loaded store (refused r) = record { answer = LoadAnswer.Refused r; bytes = refilled store (replicate storeSize 0) }
 loaded store (accepted d) = record { answer = LoadAnswer.Loaded (counts d); bytes = refilled store (encode d) }
 
+-- what a call that alters a loaded document answers and leaves: what load would on the outcome's text, "were there no length limit" (document 02, No. 1); refused, it alters nothing
+unfoldable pub stored : Bytes → Result Document → Outcome LoadAnswer
+stored store (refused r) = record { answer = LoadAnswer.Refused r; bytes = store }
+stored store (accepted d) = loaded store (accepted d)
+
 -- "load never gives 21 or 22"
 unfoldable pub load : Bytes → Bytes → Outcome LoadAnswer
 load file store =

@@ -21,6 +21,8 @@ use Rattle.format.specs.declared.Reason.the-variants.{
   NotAChannel,
   MoveNotAllowed,
   LimitExceeded,
+  NotBound,
+  SetNotAllowed,
 }
 
 unfoldable pub number : Reason → ℕ
@@ -42,6 +44,8 @@ number OutputTooShort = 23
 number NotAChannel = 24
 number MoveNotAllowed = 30
 number LimitExceeded = 31
+number NotBound = 32
+number SetNotAllowed = 33
 
 abbrev pub refusal : Reason → ℕ → Refusal
 refusal reason line = record { reason = reason; line = line }

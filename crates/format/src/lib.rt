@@ -18,6 +18,8 @@ pub enum Reason {
     NotAChannel,
     MoveNotAllowed,
     LimitExceeded,
+    NotBound,
+    SetNotAllowed,
 }
 
 // A refusal: why, and at which line; lines count from 1, and 0 is no line.

@@ -36,13 +36,14 @@ use Rattle.format.proofs.Structure.{other-tables, orderly-of, faultless-of}
 use Rattle.calls.specs.declared.LoadAnswer.{LoadAnswer}
 use Rattle.calls.specs.Layout.{memberLimit, rowsSize, setsSize, claimsStart, storeSize, counting, padded, rowBytes, setsBytes, claimCode, encode}
 use Rattle.calls.specs.Judging.{flowTable, commTable}
-use Rattle.calls.specs.Calls.{Outcome, opened, counts, refilled, judge}
-use Rattle.inference.specs.Inference.{abstractOf, tableFlags, entriesOf, smallestDocument, inferred, infer}
+use Rattle.calls.specs.Calls.{Outcome, opened, counts, stored, andThen, judge}
+use Rattle.inference.specs.Inference.{abstractOf, tableFlags, entriesOf, smallestDocument, infer}
 use Rattle.inference.specs.Inferred.{Inferred, InferIs}
 use Rattle.calls.proofs.Codec.{low, all-fit, rows-bytes-length, encode-length}
 use Rattle.calls.proofs.Codec.Sets.{sets-bytes-length}
 use Rattle.calls.proofs.Canonical.{drop-thrice}
-use Rattle.calls.proofs.Calls.{opened-is, opened-loaded}
+use Rattle.calls.proofs.Calls.{opened-is, stored-refused, stored-is, stored-opens, stored-loads}
+use Rattle.calls.proofs.Names.{names-low}
 use Rattle.calls.specs.Exact.{Closed, RowKeeps, RulesHold, JudgeIs}
 use Rattle.calls.specs.Answers.{Answer, turnedBack, loadAnswer, judgeAnswer}
 use Rattle.calls.proofs.Exact.{opened-iff, closed-is, judge-answers}
@@ -52,52 +53,12 @@ use Rattle.inference.proofs.Tables.{entries-flags, entries-hold, entrie
 
 -- ---- the names and rows of the smallest tables
 
--- the binders of a row are among its numbers
-form-low : (k : ℕ) (f : Form) → Each (λ n. n < k) (formNumbers f) → Each (λ n. n < k) (bindersOf f)
-unfolding formNumbers
-form-low k Form.Unit h = nil
-form-low k Chan h = nil
-form-low k (Send c m) h = nil
-form-low k (Recv c) h = nil
-form-low k (Pair a b) h = nil
-form-low k (Left a) h = nil
-form-low k (Right a) h = nil
-form-low k (Fun f x t) (i & j & h) = i & j & nil
-form-low k (Spawn t) h = nil
-form-low k (Sync e) h = nil
-form-low k (First a) h = nil
-form-low k (Second a) h = nil
-form-low k (Case s l t r w) (i & j & h & m & n) = j & m & nil
-form-low k (Apply f a) h = nil
-
-binders-low : (x : Row) → Each (λ n. n < rowLimit) (rowNumbers x) → Each (λ n. n < rowLimit) (binders x)
-unfolding rowNumbers binders
-binders-low (Row.Result n) h = nil
-binders-low (Row.Bind b) (i & h) = i & form-low rowLimit (b .form) (each-left (formNumbers (b .form)) (b .rest ∷ []) h)
-
-names-low : (r : ℕ) (p : Program) → So (every (λ l. not (aboveLimit l)) (rowLines r p)) → Each (λ n. n < rowLimit) (collect binders p)
-unfolding rowLines collect
-names-low r [] t = nil
-names-low r (x ∷ p) t =
-    each-append (binders-low x (row-low (low (document.row r x) (every-head _ (document.row r x) (rowLines (suc r) p) t))))
-    (names-low (suc r) p (every-tail _ (document.row r x) (rowLines (suc r) p) t))
-  where
-    row-low : Each (λ n. n < rowLimit) (lineNumbers (document.row r x)) → Each (λ n. n < rowLimit) (rowNumbers x)
-    row-low h = unfold lineNumbers in tail h
-      where
-        tail : Each (λ n. n < rowLimit) (r ∷ rowNumbers x) → Each (λ n. n < rowLimit) (rowNumbers x)
-        tail (i & h) = h
-
 module _ (d : Document) (well : So (wellFormed d)) where
   ordered : So (orderly d)
   ordered = orderly-of d well
 
   rows-fit : length (d .rows) ≤ rowLimit
   rows-fit = all-fit d ordered
-
-  rows-low : So (every (λ l. not (aboveLimit l)) (rowLines 0 (d .rows)))
-  unfolding linesOf
-  rows-low = every-left _ (rowLines 0 (d .rows)) _ (orderly-iff d .0 ordered .1 .numbers)
 
   member-low : (a : Abstract) → So (memberAllowed (d .rows) a) → member a < memberLimit
   unfolding memberAllowed member
@@ -108,7 +69,7 @@ module _ (d : Document) (well : So (wellFormed d)) where
   unfolding smallestFlow variableAllowed
   flows-low n a t =
       let (q, m) = smallest-allowed (d .rows) (name n) a t in
-      (each-at (names-low 0 (d .rows) rows-low) (elem-member n (collect binders (d .rows)) q), member-low a m)
+      (each-at (names-low d ordered) (elem-member n (collect binders (d .rows)) q), member-low a m)
 
   comms-low : (c : ℕ) (a : Abstract) → So (smallestComm (d .rows) c a) → (c < rowLimit) × (member a < memberLimit)
   unfolding smallestComm variableAllowed
@@ -189,15 +150,18 @@ encode-smallest d = rw (entries-flags (smallestFlow (d .rows)), entries-flags (s
 
 -- what comes of a store that opens
 module _ (store : Bytes) (d : Document) (e : opened store ≡ accepted d) where
+  infer-stored : infer store ≡ stored store (accepted (smallestDocument d))
+  unfolding infer andThen
+  infer-stored = ap (λ (x : Result Document). stored store (andThen x λ d. accepted (smallestDocument d))) e
+
   infer-opened : infer store ≡ record { answer = LoadAnswer.Loaded (counts (smallestDocument d)); bytes = encode (smallestDocument d) ++ drop storeSize store }
-  unfolding infer inferred refilled
-  infer-opened = ap (inferred store) e
+  infer-opened = infer-stored ∙ stored-is store (smallestDocument d)
 
   well-opened : So (wellFormed (smallestDocument d))
   well-opened = smallest-well d (opened-is store d e .well)
 
   opened-again : opened (infer store .bytes) ≡ accepted (smallestDocument d)
-  opened-again = ap (λ (o : Outcome LoadAnswer). opened (o .bytes)) infer-opened ∙ opened-loaded (smallestDocument d) well-opened (drop storeSize store)
+  opened-again = ap (λ (o : Outcome LoadAnswer). opened (o .bytes)) infer-stored ∙ stored-opens store (smallestDocument d) well-opened
 
 -- ---- the bytes of rows and claims
 
@@ -250,8 +214,8 @@ module _ (store : Bytes) (d : Document) (e : opened store ≡ accepted d) where
 
 -- a store that does not open stays as it was
 infer-refused : (store : Bytes) (r : Refusal) → opened store ≡ refused r → infer store ≡ record { answer = LoadAnswer.Refused r; bytes = store }
-unfolding infer inferred
-infer-refused store r e = ap (inferred store) e
+unfolding infer andThen
+infer-refused store r e = ap (λ (x : Result Document). stored store (andThen x λ d. accepted (smallestDocument d))) e ∙ stored-refused store r
 
 -- the lines of the smallest tables are not empty
 lines-present : (t : Table) → Each (λ e. So (present (e .members))) (entriesOf t)
@@ -262,6 +226,7 @@ unfolding smallestDocument
 inferred-is store d e =
     let w = opened-is store d e .well in
     record {
+      loads = infer-stored store d e ∙ stored-loads store (smallestDocument d) (smallest-well d w);
       holds = opened-iff (infer store .bytes) (smallestDocument d) .0 (opened-again store d e);
       row-bytes = opened-rows store d e;
       claim-bytes = opened-rest store d e;

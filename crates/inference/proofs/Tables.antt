@@ -10,7 +10,7 @@ use mathlib.Core.Logic.{_≢_}
 use lib.ListN.{length, getD, take, length-append, List·getD-eq-default}
 use lib.Seq.{take-at, drop-at, take-all}
 use lib.Dec.{eqb, lit<}
-use borrow.Author.Tests.{ne-eqb, eqb-false}
+use borrow.Author.Tests.{eqb-false}
 use Rattle.program.specs.Test.{pick}
 use Rattle.program.specs.Each.{Each, nil, _&_, collect, elem}
 use Rattle.program.specs.Flow.{Abstract, u, row, Set, Table}
@@ -22,7 +22,7 @@ use Rattle.calls.specs.Layout.{memberLimit, setsSize, counting, setsBytes, memb
 use Rattle.inference.specs.Inference.{abstractOf, setFlags, tableFlags, entriesOf}
 use Rattle.calls.proofs.Codec.Sparse.{either, counting-length, counting-each}
 use Rattle.calls.proofs.Canonical.Lists.{chunks-iff, each-collect, below-iff}
-use Rattle.calls.proofs.Canonical.Sets.{flag-again, set-again, sets-within, sets-iff}
+use Rattle.calls.proofs.Canonical.Sets.{flag-again, set-again, sets-within, sets-iff, members-none}
 
 pub abstract-member : (a : Abstract) → abstractOf (member a) ≡ a
 unfolding abstractOf member
@@ -79,11 +79,6 @@ members-hold s = each-imp (λ m d. either (s (abstractOf m)) (λ e. e) (λ e. ab
 
 -- ---- a table
 
-members-above : (n : ℕ) (es : List Entry) → Each (λ e. e .key < n) es → membersAt es n ≡ []
-unfolding membersAt
-members-above n [] nil = refl
-members-above n (e ∷ es) (h & hs) = rw (ne-eqb n (e .key) (omega arith), membersAt) (members-above n es hs)
-
 module _ (t : Table) where
   pub table-size : (k n : ℕ) → length (tableFlags k n t) ≡ k * memberLimit
   unfolding tableFlags collect counting
@@ -127,7 +122,7 @@ module _ (t : Table) where
 
   members-past : (n : ℕ) → rowLimit ≤ n → membersAt (entriesOf t) n ≡ []
   unfolding entriesOf
-  members-past n l = members-above n (decodeSets rowLimit 0 (tableFlags rowLimit 0 t)) (each-imp (λ e h. omega arith) (sets-within rowLimit 0 (tableFlags rowLimit 0 t) .0))
+  members-past n l = members-none n (decodeSets rowLimit 0 (tableFlags rowLimit 0 t)) (each-imp (λ e h d. omega arith) (sets-within rowLimit 0 (tableFlags rowLimit 0 t) .0))
 
   not-so : (b : Bool) → (So b → ⊥) → false ≡ b
   not-so true h = absurd (h refl)

@@ -1,5 +1,5 @@
 -- No. 1, "The smallest tables from the program alone", as a call: the answer and the lent bytes afterwards, as a function of the store.
---   infer   `opened` of calls, then `smallestDocument`, then `encode`   (20, 21, 22)
+--   infer   `opened` of calls, then `smallestDocument`, then `stored` of calls   (20, 21, 22)
 -- The contract of the public function is equality with `infer`, by `Leaves` of calls.
 use Prim.Native.Nat.{ℕ, zero, suc}
 use mathlib.Core.List.{List}
@@ -9,11 +9,11 @@ use Rattle.program.specs.Flow.{Abstract, u, row, Set, Table}
 use Rattle.least.specs.Least.{smallestFlow, smallestComm}
 use Rattle.format.specs.Limits.{rowLimit}
 use Rattle.format.specs.Text.{Bytes}
-use Rattle.format.specs.Refusals.{Result, refused, accepted}
+use Rattle.format.specs.Refusals.{accepted}
 use Rattle.format.specs.Document.{Entry, Document, withTables}
 use Rattle.calls.specs.declared.LoadAnswer.{LoadAnswer}
-use Rattle.calls.specs.Layout.{memberLimit, counting, encode, decodeSets}
-use Rattle.calls.specs.Calls.{Outcome, opened, counts, refilled}
+use Rattle.calls.specs.Layout.{memberLimit, counting, decodeSets}
+use Rattle.calls.specs.Calls.{Outcome, opened, stored, andThen}
 
 -- unit is member 0, row r is member r + 1
 unfoldable pub abstractOf : ℕ → Abstract
@@ -36,11 +36,7 @@ entriesOf t = decodeSets rowLimit 0 (tableFlags rowLimit 0 t)
 unfoldable pub smallestDocument : Document → Document
 smallestDocument d = withTables d (entriesOf (smallestFlow (d .rows))) (entriesOf (smallestComm (d .rows)))
 
--- "Rows and claims keep their bytes"; "The call answers the counts that load would on the outcome's text, were there no length limit"; a refused call alters nothing
-unfoldable pub inferred : Bytes → Result Document → Outcome LoadAnswer
-inferred store (refused r) = record { answer = LoadAnswer.Refused r; bytes = store }
-inferred store (accepted d) = record { answer = LoadAnswer.Loaded (counts (smallestDocument d)); bytes = refilled store (encode (smallestDocument d)) }
-
--- "Given a loaded store, the checker shall put in its own flow and comm sets, whatever was there before"
+-- "Given a loaded store, the checker shall put in its own flow and comm sets, whatever was there before"; "The call answers the counts that load would on the outcome's text, were
+-- there no length limit"
 unfoldable pub infer : Bytes → Outcome LoadAnswer
-infer store = inferred store (opened store)
+infer store = stored store (andThen (opened store) λ d. accepted (smallestDocument d))

@@ -10,6 +10,9 @@ use Rattle.least.specs.Least.{Within}
 use Rattle.format.specs.Text.{Bytes}
 use Rattle.format.specs.Document.{Document}
 use Rattle.format.specs.Read.{present}
+use Rattle.format.specs.Print.{documentText}
+use Rattle.format.specs.Check.{checkAny}
+use Rattle.calls.specs.Calls.{loaded}
 use Rattle.calls.specs.Answers.{Answer, answered}
 use Rattle.calls.specs.Layout.{rowsSize, claimsStart}
 use Rattle.calls.specs.Judging.{flowTable, commTable}
@@ -18,6 +21,8 @@ use Rattle.inference.specs.Inference.{infer}
 
 -- a store that held the document d is left with d′
 pub record Inferred (store : Bytes) (d d′ : Document) : Type 0 where
+  -- "the counts that load would on the outcome's text, were there no length limit": the answer, and the bytes too
+  pub loads : infer store ≡ loaded store (checkAny (documentText d′))
   -- the outcome is a store that some file, of any length, would leave
   pub holds : StoreHolds (infer store .bytes) d′
   -- "Rows and claims keep their bytes", and so do the lent bytes past the fixed size

@@ -29,6 +29,8 @@ use Rattle.format.specs.declared.Reason.the-variants.{
   NotAChannel,
   MoveNotAllowed,
   LimitExceeded,
+  NotBound,
+  SetNotAllowed,
 }
 use Rattle.format.specs.declared.Refusal.{Refusal}
 use Rattle.format.specs.Refusals.{number}
@@ -90,6 +92,8 @@ number-low OutputTooShort = (omega arith, omega arith)
 number-low NotAChannel = (omega arith, omega arith)
 number-low MoveNotAllowed = (omega arith, omega arith)
 number-low LimitExceeded = (omega arith, omega arith)
+number-low NotBound = (omega arith, omega arith)
+number-low SetNotAllowed = (omega arith, omega arith)
 
 pub refusal-back : (bits k : ℕ) (r : Refusal) → unpacked bits k (packed bits (refusalAnswer r)) ≡ refusalAnswer r
 unfolding unpacked packed refusalAnswer

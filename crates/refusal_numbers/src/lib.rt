@@ -26,5 +26,7 @@ pub fn number(reason: Reason) -> u8
         Reason::NotAChannel => 24,
         Reason::MoveNotAllowed => 30,
         Reason::LimitExceeded => 31,
+        Reason::NotBound => 32,
+        Reason::SetNotAllowed => 33,
     }
 }

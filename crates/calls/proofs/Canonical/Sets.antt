@@ -94,17 +94,17 @@ unfolding decodeSets rising
 sets-within zero n s = (nil, refl)
 sets-within (suc k) n s = with-entry-within n k (membersFrom 0 (take memberLimit s)) (sets-within k (suc n) (drop memberLimit s))
 
-members-none : (n : ℕ) (es : List Entry) → Each (λ e. n < e .key) es → membersAt es n ≡ []
+pub members-none : (n : ℕ) (es : List Entry) → Each (λ e. n ≢ e .key) es → membersAt es n ≡ []
 unfolding membersAt
 members-none n [] nil = refl
-members-none n (e ∷ es) (l & h) = rw (ne-eqb n (e .key) (omega arith), membersAt) (members-none n es h)
+members-none n (e ∷ es) (d & h) = rw (ne-eqb n (e .key) d, membersAt) (members-none n es h)
 
-members-here : (n : ℕ) (ms : List ℕ) (es : List Entry) → Each (λ e. n < e .key) es → membersAt (withEntry n ms es) n ≡ ms
+pub members-here : (n : ℕ) (ms : List ℕ) (es : List Entry) → Each (λ e. n < e .key) es → membersAt (withEntry n ms es) n ≡ ms
 unfolding withEntry membersAt
-members-here n [] es h = members-none n es h
+members-here n [] es h = members-none n es (each-imp (λ e l. omega arith) h)
 members-here n (m ∷ ms) es h = rw (eq-eqb n n refl, membersAt)
 
-members-past : (n c : ℕ) (ms : List ℕ) (es : List Entry) → c ≢ n → membersAt (withEntry n ms es) c ≡ membersAt es c
+pub members-past : (n c : ℕ) (ms : List ℕ) (es : List Entry) → c ≢ n → membersAt (withEntry n ms es) c ≡ membersAt es c
 unfolding withEntry membersAt
 members-past n c [] es d = refl
 members-past n c (m ∷ ms) es d = rw (ne-eqb c n d, membersAt)

@@ -4,7 +4,7 @@ use native.Mathlib.Omega.{arith}
 use native.Mathlib.Nat.{add-zero, zero-add}
 use mathlib.Core.Bool.{Bool, true, false, So}
 use mathlib.Core.List.{List, [], _∷_, _++_, append-assoc, append-nil}
-use mathlib.Core.Path.{_≡_, refl, sym, ap, _∙_}
+use mathlib.Core.Path.{_≡_, refl, sym, ap, _∙_, subst}
 use mathlib.Core.Logic.{_≢_}
 use lib.ListN.{length, take, drop, replicate, length-append, length-replicate, replicate-append-replicate}
 use lib.Seq.{take-at, drop-at}
@@ -17,7 +17,7 @@ use Rattle.program.specs.Program.{Program}
 use Rattle.program.proofs.Test.{and-left, and-right}
 use Rattle.format.specs.Limits.{rowLimit}
 use Rattle.format.specs.Text.{Bytes}
-use Rattle.format.specs.Document.{Entry, Claim, Document, row, flow, comm, claim, membersAt}
+use Rattle.format.specs.Document.{Entry, Claim, Document, row, flow, comm, claim, membersAt, withTables}
 use Rattle.format.specs.Read.{add, noLines}
 use Rattle.calls.specs.Layout.{rowSize, rowsSize, setsSize, commsStart, claimsStart, memberLimit, storeSize, flowAt, commAt, claimAt, counting, padded, rowBytes, flagsOf, setsBytes}
 use Rattle.calls.specs.Layout.{wordCode, claimCode, encode}
@@ -84,33 +84,37 @@ unfolding counting elem
 flags-none zero i = refl
 flags-none (suc n) i = ap (λ (l : Bytes). 0 ∷ l) (flags-none n (suc i))
 
--- the part of the sets that a new entry fills, between what stays
-pub record Filled (old new part : Bytes) (at : ℕ) : Type 0 where
+-- a part of some bytes and what came in its place, between what stays
+pub record Swapped (old new gone part : Bytes) (at : ℕ) : Type 0 where
   pub before : Bytes
   pub after : Bytes
   pub size : length before ≡ at
-  pub was : old ≡ before ++ (replicate (length part) 0 ++ after)
+  pub same : length gone ≡ length part
+  pub was : old ≡ before ++ (gone ++ after)
   pub is : new ≡ before ++ (part ++ after)
 
-pub sets-filled : (es : List Entry) (e : Entry) → So (every (λ f. ltb (f .key) (e .key)) es) → e .key < rowLimit
-    → Filled (setsBytes es) (setsBytes (es ++ (e ∷ []))) (flagsOf (e .members)) (e .key * memberLimit)
-unfolding setsBytes chunks flagsOf
-sets-filled es e h l =
-    let m = rowLimit - suc (e .key) in
-    let q : rowLimit ≡ e .key + suc m = omega arith in
-    let (old, new) = members-new es e h in
-    let z : 0 + e .key ≡ e .key = zero-add (e .key) in
+-- the part that a new line fills was 0
+abbrev pub Filled : Bytes → Bytes → Bytes → ℕ → Type 0
+Filled old new part at = Swapped old new (replicate (length part) 0) part at
+
+-- two lists of sets that differ in one set at most
+pub sets-swapped : (es fs : List Entry) (n : ℕ) → n < rowLimit → ((k : ℕ) → k ≢ n → membersAt fs k ≡ membersAt es k)
+    → Swapped (setsBytes es) (setsBytes fs) (flagsOf (membersAt es n)) (flagsOf (membersAt fs n)) (n * memberLimit)
+unfolding setsBytes chunks
+sets-swapped es fs n l others =
+    let m = rowLimit - suc n in
+    let q : rowLimit ≡ n + suc m = omega arith in
+    let z : 0 + n ≡ n = zero-add n in
     record {
-      before = chunks g (e .key) 0;
-      after = chunks g m (suc (0 + e .key));
-      size = chunks-length g (e .key) 0 (λ n. flags-length (membersAt es n));
-      was = ap (λ (n : ℕ). chunks g n 0) q ∙ chunks-split g (e .key) m 0 ∙ ap (λ (x : Bytes). chunks g (e .key) 0 ++ (x ++ chunks g m (suc (0 + e .key))))
-          (ap g z ∙ ap flagsOf old ∙ flags-none memberLimit 0 ∙ ap (λ (n : ℕ). replicate n 0) (sym (flags-length (e .members))));
-      is = ap (λ (n : ℕ). chunks k n 0) q ∙ chunks-split k (e .key) m 0 ∙ rw (
-        chunks-same k g (e .key) 0 (λ n a b. other n (λ d. omega arith)),
-        chunks-same k g m (suc (0 + e .key)) (λ n a b. other n (λ d. omega arith)),
+      before = chunks g n 0;
+      after = chunks g m (suc (0 + n));
+      size = chunks-length g n 0 (λ n. flags-length (membersAt es n));
+      same = flags-length (membersAt es n) ∙ sym (flags-length (membersAt fs n));
+      was = ap (λ (i : ℕ). chunks g i 0) q ∙ chunks-split g n m 0 ∙ ap (λ (i : ℕ). chunks g n 0 ++ (g i ++ chunks g m (suc (0 + n)))) z;
+      is = ap (λ (i : ℕ). chunks k i 0) q ∙ chunks-split k n m 0 ∙ rw (
+        chunks-same k g n 0 (λ i a b. other i (λ d. omega arith)),
+        chunks-same k g m (suc (0 + n)) (λ i a b. other i (λ d. omega arith)),
         z,
-        new,
       );
     }
   where
@@ -118,10 +122,20 @@ sets-filled es e h l =
     g n = flagsOf (membersAt es n)
 
     k : ℕ → Bytes
-    k n = flagsOf (membersAt (es ++ (e ∷ [])) n)
+    k n = flagsOf (membersAt fs n)
 
-    other : (n : ℕ) → n ≢ e .key → k n ≡ g n
-    other n d = ap flagsOf (members-other es e n d)
+    other : (i : ℕ) → i ≢ n → k i ≡ g i
+    other i d = ap flagsOf (others i d)
+
+pub sets-filled : (es : List Entry) (e : Entry) → So (every (λ f. ltb (f .key) (e .key)) es) → e .key < rowLimit
+    → Filled (setsBytes es) (setsBytes (es ++ (e ∷ []))) (flagsOf (e .members)) (e .key * memberLimit)
+unfolding flagsOf
+sets-filled es e h l =
+    let (old, new) = members-new es e h in
+    let none : flagsOf [] ≡ replicate (length (flagsOf (e .members))) 0 = flags-none memberLimit 0 ∙ ap (λ (n : ℕ). replicate n 0) (sym (flags-length (e .members))) in
+    subst (λ (b : Bytes). Swapped (setsBytes es) (setsBytes (es ++ (e ∷ []))) b (flagsOf (e .members)) (e .key * memberLimit)) (ap flagsOf old ∙ none)
+    (subst (λ (ms : List ℕ). Swapped (setsBytes es) (setsBytes (es ++ (e ∷ []))) (flagsOf (membersAt es (e .key))) (flagsOf ms) (e .key * memberLimit)) new
+    (sets-swapped es (es ++ (e ∷ [])) (e .key) l (members-other es e)))
 
 -- ---- claims
 
@@ -165,6 +179,7 @@ claims-filled cs c h l =
       before = counting (c .channel) 0 f;
       after = counting m (suc (0 + c .channel)) f;
       size = counting-length (c .channel) 0 f;
+      same = refl;
       was = ap (λ (n : ℕ). counting n 0 f) q ∙ counting-split f (c .channel) m 0 ∙ rw (z, old);
       is = ap (λ (n : ℕ). counting n 0 g) q ∙ counting-split g (c .channel) m 0 ∙ rw (
         counting-same (c .channel) 0 g f (λ n a b. claim-other cs c n (λ d. omega arith)),
@@ -195,40 +210,32 @@ rows-filled xs x l =
       before = b;
       after = replicate m 0;
       size = n;
+      same = length-replicate (length (rowBytes x)) 0;
       was = ap (λ (l : Bytes). b ++ l) (ap (λ (n : ℕ). replicate n 0) split ∙ sym (replicate-append-replicate (length (rowBytes x)) m 0));
       is = rw (collect-snoc xs x, rest, append-assoc b (rowBytes x) (replicate m 0));
     }
 
 -- ---- the whole store
 
-pub filled-patch : {old new part : Bytes} {at : ℕ} (pre post : Bytes) → Filled old new part at → patch (length pre + at) part (pre ++ (old ++ post)) ≡ pre ++ (new ++ post)
-filled-patch {old} {new} {part} {at} pre post f =
-    let a : pre ++ (old ++ post) ≡ pre ++ f .before ++ (replicate (length part) 0 ++ (f .after ++ post)) =
-    rw (
-      f .was,
-      append-assoc (f .before) (replicate (length part) 0 ++ f .after) post,
-      append-assoc (replicate (length part) 0) (f .after) post,
-      append-assoc pre (f .before) (replicate (length part) 0 ++ (f .after ++ post)),
-    ) in
-    let b : pre ++ f .before ++ (part ++ (f .after ++ post)) ≡ pre ++ (new ++ post) =
-    rw (f .is, append-assoc (f .before) (part ++ f .after) post, append-assoc part (f .after) post, append-assoc pre (f .before) (part ++ (f .after ++ post))) in
-    ap (patch (length pre + at) part) a
-    ∙ patch-middle (pre ++ f .before) (replicate (length part) 0) part (f .after ++ post) (length pre + at) (length-append pre (f .before) ∙ ap (λ (n : ℕ). length pre + n) (f .size))
-    (length-replicate (length part) 0)
-    ∙ b
+joined : (pre before part after post : Bytes) → pre ++ ((before ++ (part ++ after)) ++ post) ≡ (pre ++ before) ++ (part ++ (after ++ post))
+joined pre before part after post =
+    rw (append-assoc before (part ++ after) post, append-assoc part after post, append-assoc pre before (part ++ (after ++ post)))
 
--- the part was 0
-pub filled-zero : {old new part : Bytes} {at : ℕ} (pre post : Bytes) → Filled old new part at → take (length part) (drop (length pre + at) (pre ++ (old ++ post))) ≡ replicate (length part) 0
-filled-zero {old} {new} {part} {at} pre post f =
-    let a : pre ++ (old ++ post) ≡ pre ++ f .before ++ (replicate (length part) 0 ++ (f .after ++ post)) =
-    rw (
-      f .was,
-      append-assoc (f .before) (replicate (length part) 0 ++ f .after) post,
-      append-assoc (replicate (length part) 0) (f .after) post,
-      append-assoc pre (f .before) (replicate (length part) 0 ++ (f .after ++ post)),
-    ) in
-    rw (a, drop-at (pre ++ f .before) (replicate (length part) 0 ++ (f .after ++ post)) (length pre + at) (length-append pre (f .before) ∙ ap (λ (n : ℕ). length pre + n) (f .size)))
-    (take-at (replicate (length part) 0) (f .after ++ post) (length part) (length-replicate (length part) 0))
+module _ {old new gone part : Bytes} {at : ℕ} (pre post : Bytes) (f : Swapped old new gone part at) where
+  place : length (pre ++ f .before) ≡ length pre + at
+  place = length-append pre (f .before) ∙ ap (λ (n : ℕ). length pre + n) (f .size)
+
+  whole : pre ++ (old ++ post) ≡ (pre ++ f .before) ++ (gone ++ (f .after ++ post))
+  whole = ap (λ (x : Bytes). pre ++ (x ++ post)) (f .was) ∙ joined pre (f .before) gone (f .after) post
+
+  pub swapped-patch : patch (length pre + at) part (pre ++ (old ++ post)) ≡ pre ++ (new ++ post)
+  swapped-patch =
+      ap (patch (length pre + at) part) whole ∙ patch-middle (pre ++ f .before) gone part (f .after ++ post) (length pre + at) place (f .same)
+      ∙ sym (ap (λ (x : Bytes). pre ++ (x ++ post)) (f .is) ∙ joined pre (f .before) part (f .after) post)
+
+  -- what stood there before
+  pub swapped-old : take (length part) (drop (length pre + at) (pre ++ (old ++ post))) ≡ gone
+  swapped-old = rw (whole, drop-at (pre ++ f .before) (gone ++ (f .after ++ post)) (length pre + at) place) (take-at gone (f .after ++ post) (length part) (f .same))
 
 -- where each part begins
 rows-part : (d : Document) → length (d .rows) ≤ rowLimit → length (padded rowsSize (collect rowBytes (d .rows))) ≡ rowsSize
@@ -239,7 +246,7 @@ pub add-row : (d : Document) (r : ℕ) (x : Row) → length (d .rows) < rowLimit
 unfolding encode add
 add-row d r x l =
     let e : length (d .rows) * rowSize ≡ length {A = ℕ} [] + length (d .rows) * rowSize = sym (zero-add (length (d .rows) * rowSize)) in
-    rw e (sym (filled-patch [] (setsBytes (d .flows) ++ (setsBytes (d .comms) ++ counting rowLimit 0 (claimCode (d .claims)))) (rows-filled (d .rows) x l)))
+    rw e (sym (swapped-patch [] (setsBytes (d .flows) ++ (setsBytes (d .comms) ++ counting rowLimit 0 (claimCode (d .claims)))) (rows-filled (d .rows) x l)))
 
 module _ (d : Document) (fit : length (d .rows) ≤ rowLimit) where
   -- a flow line more, whose name is above all that have one: its set was empty
@@ -251,7 +258,16 @@ module _ (d : Document) (fit : length (d .rows) ≤ rowLimit) where
       let pre = padded rowsSize (collect rowBytes (d .rows)) in
       let post = setsBytes (d .comms) ++ counting rowLimit 0 (claimCode (d .claims)) in
       let n : length pre ≡ rowsSize = rows-part d fit in
-      (rw n at (sym (filled-patch pre post f)), rw (n, flags-length (e .members)) at (filled-zero pre post f))
+      (rw n at (sym (swapped-patch pre post f)), rw (n, flags-length (e .members)) at (swapped-old pre post f))
+
+  -- other flow lines that differ in the set of one name at most
+  pub other-flow : (fs : List Entry) (n : ℕ) → n < rowLimit → ((k : ℕ) → k ≢ n → membersAt fs k ≡ membersAt (d .flows) k)
+      → encode (withTables d fs (d .comms)) ≡ patch (flowAt n) (flagsOf (membersAt fs n)) (encode d)
+  unfolding encode
+  other-flow fs n l others =
+      let pre = padded rowsSize (collect rowBytes (d .rows)) in
+      let post = setsBytes (d .comms) ++ counting rowLimit 0 (claimCode (d .claims)) in
+      rw (rows-part d fit) at (sym (swapped-patch pre post (sets-swapped (d .flows) fs n l others)))
 
   pub add-comm : (e : Entry) → So (every (λ f. ltb (f .key) (e .key)) (d .comms)) → e .key < rowLimit
       → (encode (add d (comm e)) ≡ patch (commAt (e .key)) (flagsOf (e .members)) (encode d)) × (take memberLimit (drop (commAt (e .key)) (encode d)) ≡ replicate memberLimit 0)
@@ -262,8 +278,8 @@ module _ (d : Document) (fit : length (d .rows) ≤ rowLimit) where
       let flows = setsBytes (d .flows) in
       let post = counting rowLimit 0 (claimCode (d .claims)) in
       let n : length (rows ++ flows) ≡ commsStart = length-append rows flows ∙ rw (rows-part d fit, sets-bytes-length (d .flows)) in (
-        rw (n, append-assoc rows flows (setsBytes (d .comms) ++ post), append-assoc rows flows (setsBytes (d .comms ++ (e ∷ [])) ++ post)) at (sym (filled-patch (rows ++ flows) post f)),
-        rw (n, flags-length (e .members), append-assoc rows flows (setsBytes (d .comms) ++ post)) at (filled-zero (rows ++ flows) post f),
+        rw (n, append-assoc rows flows (setsBytes (d .comms) ++ post), append-assoc rows flows (setsBytes (d .comms ++ (e ∷ [])) ++ post)) at (sym (swapped-patch (rows ++ flows) post f)),
+        rw (n, flags-length (e .members), append-assoc rows flows (setsBytes (d .comms) ++ post)) at (swapped-old (rows ++ flows) post f),
       )
 
   pub add-claim : (c : Claim) → So (every (λ k. ltb (k .channel) (c .channel)) (d .claims)) → c .channel < rowLimit
@@ -289,7 +305,7 @@ module _ (d : Document) (fit : length (d .rows) ≤ rowLimit) where
         append-assoc flows comms (counting rowLimit 0 (claimCode (d .claims ++ (c ∷ [])))),
       ) in
       sym (ap (λ (k : ℕ). patch (k + c .channel) (wordCode (c .word) ∷ []) (rows ++ (flows ++ (comms ++ counting rowLimit 0 (claimCode (d .claims)))))) (sym n)
-      ∙ ap (patch (length (rows ++ (flows ++ comms)) + c .channel) (wordCode (c .word) ∷ [])) (sym old) ∙ filled-patch (rows ++ (flows ++ comms)) [] f ∙ new)
+      ∙ ap (patch (length (rows ++ (flows ++ comms)) + c .channel) (wordCode (c .word) ∷ [])) (sym old) ∙ swapped-patch (rows ++ (flows ++ comms)) [] f ∙ new)
 
 -- ---- nothing read: every byte is 0
 
