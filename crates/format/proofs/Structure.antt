@@ -128,9 +128,9 @@ well-formed d e =
 
 -- ---- other flow and comm lines
 
-three : (a b c : Option ℕ) → (a <|> b <|> c) ≡ none → c ≡ none
+three : (a b c : Option ℕ) → (a <|> b <|> c) ≡ none → (a ≡ none) × (b ≡ none) × (c ≡ none)
 unfolding _<|>_
-three none none c e = e
+three none none c e = (refl, refl, e)
 three (some x) b c e = let z : _≡_ {A = ℕ} 0 1 = cc in absurd (omega arith)
 three none (some x) c e = let z : _≡_ {A = ℕ} 0 1 = cc in absurd (omega arith)
 
@@ -138,9 +138,16 @@ last-other : (a b c x y : Option Refusal) → (a <|> b <|> c <|> x) ≡ none →
 unfolding _<|>_
 last-other a b c x y e h = let (i, j, k, _) = alternatives a b c x e in rw (i, j, k, h)
 
-claims-fine : (d : Document) → notAllowed d ≡ none → firstFailing (claimAllowed (d .rows)) (claimLine d) (d .claims) ≡ none
-unfolding notAllowed
-claims-fine d e = three _ _ _ e
+-- the lines of a document without a structure fault
+pub lines-allowed : (d : Document) → structureFault d ≡ none → Each (λ e. So (flowAllowed (d .rows) e)) (d .flows) × Each (λ e. So (commAllowed (d .rows) e)) (d .comms)
+    × Each (λ c. So (claimAllowed (d .rows) c)) (d .claims)
+lines-allowed d e = go (structured d e .allowed)
+  where
+    go : notAllowed d ≡ none → Each (λ e. So (flowAllowed (d .rows) e)) (d .flows) × Each (λ e. So (commAllowed (d .rows) e)) (d .comms)
+        × Each (λ c. So (claimAllowed (d .rows) c)) (d .claims)
+    go k = unfold notAllowed in
+        let (f, c, l) = three _ _ _ k in
+        (first-none (flowAllowed (d .rows)) (flowLine d) (d .flows) f, first-none (commAllowed (d .rows)) (commLine d) (d .comms) c, first-none (claimAllowed (d .rows)) (claimLine d) (d .claims) l)
 
 -- lines that are allowed in the place of those of a document without a structure fault
 pub other-tables : (d : Document) (flows comms : List Entry) → structureFault d ≡ none
@@ -152,8 +159,7 @@ other-tables d flows comms e f c = last-other _ _ _ _ _ e (rw allowed-here)
     allowed-here = unfold notAllowed _<|>_ in rw (
       none-first (flowAllowed (d .rows)) (flowLine (withTables d flows comms)) flows f,
       none-first (commAllowed (d .rows)) (commLine (withTables d flows comms)) comms c,
-      none-first (claimAllowed (d .rows)) (claimLine (withTables d flows comms)) (d .claims) (first-none (claimAllowed (d .rows)) (claimLine d) (d .claims) (claims-fine d
-          (structured d e .allowed))),
+      none-first (claimAllowed (d .rows)) (claimLine (withTables d flows comms)) (d .claims) (lines-allowed d e .2),
     )
 
 -- ---- the two parts of a well-formed document
