@@ -1,4 +1,5 @@
 -- Theorems about the definitions of specs/.
+pub mod Patches
 pub mod Codec
 pub mod Canonical
 pub mod Names

@@ -20,7 +20,7 @@ use Rattle.program.proofs.WellFormed.{distinct, pointersRise, WellFormed}
 use Rattle.program.proofs.Each.{collect-append, elem-append}
 use Rattle.format.specs.declared.Refusal.{Refusal}
 use Rattle.format.specs.Document.{Entry, Document, withTables}
-use Rattle.format.specs.Structure.{wrongPointers, pointerFault, boundEarlier, binderFault, scopeLine, flowAllowed, commAllowed, claimAllowed, firstFailing, flowLine, commLine, claimLine}
+use Rattle.format.specs.Structure.{wrongPointers, pointerFault, boundEarlier, binderFault, scopeLine, flowAllowed, commAllowed, claimAllowed, flowLine, commLine, claimLine}
 use Rattle.format.specs.Structure.{notAllowed, structureFault}
 use Rattle.format.specs.WellFormed.{orderly, wellFormed}
 use Rattle.format.proofs.First.{none-first, first-none}

@@ -7,31 +7,27 @@ use mathlib.Core.Path.{_≡_, refl, sym, ap, _∙_, subst}
 use mathlib.Core.Logic.{_≢_}
 use lib.ListN.{length, take, drop, take-append-drop}
 use lib.Seq.{take-at, drop-at}
-use Rattle.program.specs.declared.Row.{Row}
-use Rattle.program.specs.declared.Form.{Form}
-use Rattle.program.specs.declared.Form.the-variants.{Chan, Send, Recv, Pair, Left, Right, Fun, Spawn, Sync, First, Second, Case, Apply}
 use Rattle.program.specs.Each.{every, collect}
-use Rattle.program.specs.Program.{Program, bindersOf, binders}
+use Rattle.program.specs.Program.{Program, binders}
 use Rattle.program.specs.Flow.{Abstract, u, row, Table}
 use Rattle.program.specs.FlowRule.{KeepsAll}
 use Rattle.least.specs.Least.{Variable, name, channel, variableAllowed, memberAllowed, smallest, smallestFlow, smallestComm}
 use Rattle.program.proofs.Test.{and-intro}
 use Rattle.program.specs.Each.{Each, nil, _&_}
-use Rattle.program.proofs.Each.{each-at, each-imp, each-append, each-left}
+use Rattle.program.proofs.Each.{each-at, each-imp}
 use Rattle.least.proofs.Least.{elem-member, value-bound, chan-bound, smallest-keeps, smallest-lies, smallest-allowed}
 use Rattle.format.specs.Limits.{rowLimit}
 use Rattle.format.specs.Text.{Bytes}
 use Rattle.format.specs.Document.{Document, Line, flow, comm, claim, member}
-use Rattle.format.specs.Document as document
-use Rattle.format.specs.Print.{formNumbers, rowLines, linesOf}
-use Rattle.format.specs.Read.{present, rowNumbers, lineNumbers, aboveLimit}
+use Rattle.format.specs.Print.{rowLines, linesOf}
+use Rattle.format.specs.Read.{present, aboveLimit}
 use Rattle.format.specs.Structure.{flowAllowed, commAllowed}
 use Rattle.format.specs.Structure as structure
 use Rattle.format.specs.declared.Refusal.{Refusal}
 use Rattle.format.specs.WellFormed.{orderly, wellFormed}
 use Rattle.format.specs.Refusals.{Result, refused, accepted}
 use Rattle.format.proofs.Order.{orderly-iff}
-use Rattle.format.proofs.Rising.{every-append, every-left, every-right, every-head, every-tail}
+use Rattle.format.proofs.Rising.{every-append, every-left, every-right}
 use Rattle.format.proofs.Structure.{other-tables, orderly-of, faultless-of}
 use Rattle.calls.specs.declared.LoadAnswer.{LoadAnswer}
 use Rattle.calls.specs.Layout.{memberLimit, rowsSize, setsSize, claimsStart, storeSize, counting, padded, rowBytes, setsBytes, claimCode, encode}
@@ -39,7 +35,7 @@ use Rattle.calls.specs.Judging.{flowTable, commTable}
 use Rattle.calls.specs.Calls.{Outcome, opened, counts, stored, andThen, judge}
 use Rattle.inference.specs.Inference.{abstractOf, tableFlags, entriesOf, smallestDocument, infer}
 use Rattle.inference.specs.Inferred.{Inferred, InferIs}
-use Rattle.calls.proofs.Codec.{low, all-fit, rows-bytes-length, encode-length}
+use Rattle.calls.proofs.Codec.{all-fit, rows-bytes-length, encode-length}
 use Rattle.calls.proofs.Codec.Sets.{sets-bytes-length}
 use Rattle.calls.proofs.Canonical.{drop-thrice}
 use Rattle.calls.proofs.Calls.{opened-is, stored-refused, stored-is, stored-opens, stored-loads}

@@ -20,7 +20,7 @@ use Rattle.format.specs.Read.{readRow, readSet, readContent, claimWords, lineWo
 use Rattle.calls.specs.Layout.{storeSize, rowSize, memberLimit, rowBytes, flagsOf, wordCode, claimAt, encode}
 use Rattle.calls.proofs.Codec.Rows.{row-size}
 use Rattle.calls.proofs.Codec.Sets.{flags-length}
-use Rattle.calls.proofs.Codec.Adding.{patch}
+use Rattle.calls.proofs.Patches.{patch, sets-patched, set-patched, patched-length, patched-take, patched-drop}
 use Rattle.raw_rows.specs.Raw.{rowAbove}
 use Rattle.read_sets.specs.declared.SetFault.{SetFault}
 use Rattle.read_sets.specs.declared.SetRead.{SetRead}
@@ -36,7 +36,6 @@ use Rattle.load_line.specs.Line.{Past, LineKept, FaultIs, AnswerIs, Line
 use Rattle.progress.specs.Lines.{sectionOf, setLine, placeOf, withRow, withSet, withClaim, rowLineFault, setLineFault, claimLineFault}
 use Rattle.progress.proofs.Faults.{row-fault, set-fault, claim-fault, row-fits, set-fits, claim-fits}
 use Rattle.progress.proofs.Adding.{row-matches, set-matches, claim-matches, row-stored, set-stored, claim-stored, row-small, set-small, claim-small}
-use Rattle.load_line.proofs.Patches.{sets-patched, set-patched, patched-length, patched-take, patched-drop}
 
 untouched : (store : Bytes) → Past store store
 untouched store = record { length-stays = refl; rest-stays = refl }

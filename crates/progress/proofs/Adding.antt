@@ -15,7 +15,8 @@ use Rattle.format.specs.Limits.{rowLimit}
 use Rattle.format.specs.Document.{Entry, Document, row, claim}
 use Rattle.format.specs.Read.{add}
 use Rattle.calls.specs.Layout.{rowSize, rowBytes, flagsOf, wordCode, claimAt, encode}
-use Rattle.calls.proofs.Codec.Adding.{patch, add-row, add-flow, add-comm, add-claim}
+use Rattle.calls.proofs.Patches.{patch}
+use Rattle.calls.proofs.Codec.Adding.{add-row, add-flow, add-comm, add-claim}
 use Rattle.progress.specs.declared.Progress.{Progress}
 use Rattle.progress.specs.declared.Table.{Table}
 use Rattle.progress.specs.declared.Table.the-variants.{Flow, Comm}

@@ -21,18 +21,10 @@ use Rattle.format.specs.Document.{Entry, Claim, Document, row, flow, comm, clai
 use Rattle.format.specs.Read.{add, noLines}
 use Rattle.calls.specs.Layout.{rowSize, rowsSize, setsSize, commsStart, claimsStart, memberLimit, storeSize, flowAt, commAt, claimAt, counting, padded, rowBytes, flagsOf, setsBytes}
 use Rattle.calls.specs.Layout.{wordCode, claimCode, encode}
+use Rattle.calls.proofs.Patches.{patch, patch-middle}
 use Rattle.calls.proofs.Codec.Sparse.{counting-length, counting-same}
 use Rattle.calls.proofs.Codec.Rows.{rows-length, row-size, rows-part-length}
 use Rattle.calls.proofs.Codec.Sets.{flags-length, sets-bytes-length}
-
--- s with the bytes at a position replaced
-abbrev pub patch : ℕ → Bytes → Bytes → Bytes
-patch at new s = take at s ++ (new ++ drop (at + length new) s)
-
-pub patch-middle : (a old new c : Bytes) (at : ℕ) → length a ≡ at → length old ≡ length new → patch at new (a ++ (old ++ c)) ≡ a ++ (new ++ c)
-patch-middle a old new c at e l =
-    let n : length (a ++ old) ≡ at + length new = length-append a old ∙ omega arith in
-    rw (take-at a (old ++ c) at e, ← append-assoc a old c, drop-at (a ++ old) c (at + length new) n)
 
 -- ---- parts of equal size, one for each number
 

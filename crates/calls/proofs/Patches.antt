@@ -1,15 +1,48 @@
--- A store of which a part inside the fixed size was replaced.
+-- Bytes of which a part was replaced.
 use Prim.Native.Nat.{ℕ, _+_, _-_, _≤_, _<_}
 use mathlib.Core.List.{[], _∷_, _++_, append-assoc}
-use mathlib.Core.Path.{_≡_, sym, ap, _∙_}
+use mathlib.Core.Path.{_≡_, refl, sym, ap, _∙_}
 use native.Mathlib.Omega.{arith}
 use native.Mathlib.Numerals.{add-one}
-use lib.ListN.{length, take, drop, set, length-append, length-drop}
-use lib.Seq.{sets, sets-eq, set-split, take-take, drop-drop, drop-at, length-take-le, take-append-add, drop-append-add, take-add}
+use lib.ListN.{length, take, drop, set, length-append, length-drop, take-append-drop}
+use lib.Seq.{sets, sets-eq, set-split, take-take, drop-drop, take-at, drop-at, length-take-le, take-append-add, drop-append-add, take-add}
 use Rattle.format.specs.Text.{Bytes}
-use Rattle.calls.proofs.Codec.Adding.{patch}
 
--- what a row's eight bytes, and one byte, replace
+-- s with the bytes at a position replaced
+abbrev pub patch : ℕ → Bytes → Bytes → Bytes
+patch at new s = take at s ++ (new ++ drop (at + length new) s)
+
+pub patch-middle : (a old new c : Bytes) (at : ℕ) → length a ≡ at → length old ≡ length new → patch at new (a ++ (old ++ c)) ≡ a ++ (new ++ c)
+patch-middle a old new c at e l =
+    let n : length (a ++ old) ≡ at + length new = length-append a old ∙ omega arith in
+    rw (take-at a (old ++ c) at e, ← append-assoc a old c, drop-at (a ++ old) c (at + length new) n)
+
+-- the later of two parts stands
+pub patch-twice : (s old new : Bytes) (at : ℕ) → at ≤ length s → length old ≡ length new → patch at new (patch at old s) ≡ patch at new s
+patch-twice s old new at l e =
+    patch-middle (take at s) old new (drop (at + length old) s) at (length-take-le at s l) e ∙ ap (λ (n : ℕ). take at s ++ (new ++ drop (at + n) s)) e
+
+-- the part that is there alters nothing
+pub patch-own : (s : Bytes) (at n : ℕ) → at + n ≤ length s → patch at (take n (drop at s)) s ≡ s
+patch-own s at n l =
+    let size : length (take n (drop at s)) ≡ n = length-take-le n (drop at s) (omega (arith, length-drop at s)) in
+    ap (λ (k : ℕ). take at s ++ (take n (drop at s) ++ drop (at + k) s)) size ∙ ap (λ (x : Bytes). take at s ++ (take n (drop at s) ++ x)) (sym (drop-drop n at s))
+    ∙ ap (λ (x : Bytes). take at s ++ x) (take-append-drop n (drop at s)) ∙ take-append-drop at s
+
+-- so it can be put back
+pub patch-back : (s new : Bytes) (at n : ℕ) → length new ≡ n → at + n ≤ length s → patch at (take n (drop at s)) (patch at new s) ≡ s
+patch-back s new at n e l =
+    let size : length (take n (drop at s)) ≡ n = length-take-le n (drop at s) (omega (arith, length-drop at s)) in
+    patch-twice s new (take n (drop at s)) at (omega arith) (e ∙ sym size) ∙ patch-own s at n l
+
+pub patched-before : (s new : Bytes) (at : ℕ) → at ≤ length s → take at (patch at new s) ≡ take at s
+patched-before s new at l = take-at (take at s) (new ++ drop (at + length new) s) at (length-take-le at s l)
+
+pub patched-part : (s new : Bytes) (at : ℕ) → at ≤ length s → take (length new) (drop at (patch at new s)) ≡ new
+patched-part s new at l =
+    rw (drop-at (take at s) (new ++ drop (at + length new) s) at (length-take-le at s l)) (take-at new (drop (at + length new) s) (length new) refl)
+
+-- a run of bytes, and one byte
 pub sets-patched : (s : Bytes) (at : ℕ) (new : Bytes) → at + length new ≤ length s → sets s at new ≡ patch at new s
 sets-patched s at new l = sets-eq new s at l ∙ append-assoc (take at s) new (drop (at + length new) s)
 

@@ -1,0 +1,2 @@
+-- What replace and preview give: `Replacement`.
+pub mod Entries
