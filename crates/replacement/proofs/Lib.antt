@@ -1,2 +1,4 @@
 -- What replace and preview give: `Replacement`.
+pub mod Handed
 pub mod Entries
+pub mod Replacement
