@@ -18,7 +18,7 @@ pub enum Opened {
 }
 
 // A refusal of the store, at line 0.
-fn refuse_store(reason: Reason) -> Opened
+pub fn refuse_store(reason: Reason) -> Opened
     ensures { λ o. ⌜ o ≡ Opened.Refused (refusal reason 0) ⌝ }
 {
     Opened::Refused(Refusal {

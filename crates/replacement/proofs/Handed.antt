@@ -3,15 +3,15 @@ use Prim.Native.Nat.{ℕ, zero, suc, _<_}
 use native.Mathlib.Omega.{arith}
 use mathlib.Core.Bool.{Bool, true, false, _&&_, So}
 use mathlib.Core.List.{List, [], _∷_, map}
-use mathlib.Core.Path.{_≡_, refl, ap, _∙_, fun-ext}
+use mathlib.Core.Path.{_≡_, refl, fun-ext}
 use mathlib.Core.Logic.{_↔_}
-use lib.Dec.{ltb, eqb, leb·suc-suc, eqb·suc-suc, eqb·zero-suc, eqb·suc-zero}
+use lib.Dec.{ltb, leb·suc-suc, eqb·suc-suc, eqb·zero-suc, eqb·suc-zero}
 use borrow.Author.Tests.{lt-ltb}
 use Rattle.program.specs.Each.{every, elem, Each, nil, _&_}
 use Rattle.program.specs.Program.{Program, valueRow}
 use Rattle.program.specs.Flow.{Abstract, u, row, Set}
 use Rattle.program.proofs.Test.{and-left, and-right, and-intro}
-use Rattle.program.proofs.Each.{every-elim, each-imp}
+use Rattle.program.proofs.Each.{every-elim}
 use Rattle.least.proofs.Least.{value-bound}
 use lib.ListN.{length}
 use Rattle.format.specs.Text.{Bytes}

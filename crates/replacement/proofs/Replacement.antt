@@ -1,13 +1,12 @@
 -- Replace and preview are as specs/Replaced says: the store with the new set opens again, and differs from the old one in that set only.
-use Prim.Native.Nat.{ℕ, zero, suc, _+_, _*_, _≤_, _<_}
+use Prim.Native.Nat.{ℕ, _+_, _≤_, _<_}
 use native.Mathlib.Omega.{arith}
 use mathlib.Core.Bool.{Bool, true, false, not, _&&_, So, false≢true}
-use mathlib.Core.List.{List, [], _∷_, _++_, map}
+use mathlib.Core.List.{List, _++_, map}
 use mathlib.Core.Path.{_≡_, refl, sym, ap, _∙_, subst}
 use mathlib.Core.Logic.{_≢_}
 use lib.ListN.{length, take, drop, take-append-drop}
-use lib.Seq.{length-take-le, take-append-le, drop-append-le}
-use Rattle.program.specs.Each.{every, collect, elem, Each, nil, _&_}
+use Rattle.program.specs.Each.{every, collect, elem, Each, _&_}
 use Rattle.program.specs.Flow.{Abstract}
 use Rattle.program.specs.Program.{binders}
 use Rattle.program.proofs.Test.{and-left, and-right, and-intro}
@@ -15,10 +14,10 @@ use Rattle.program.proofs.Each.{every-elim, each-at, each-imp, each-map, each-u
 use Rattle.least.proofs.Least.{elem-member}
 use Rattle.format.specs.Limits.{rowLimit}
 use Rattle.format.specs.Text.{Bytes}
-use Rattle.format.specs.Document.{Entry, Document, Line, flow, comm, claim, member, membersAt, tableOf, withTables}
+use Rattle.format.specs.Document.{Entry, Document, Line, flow, comm, claim, member, tableOf}
 use Rattle.format.specs.Print.{rowLines, linesOf}
 use Rattle.format.specs.Read.{present, rising, lineNumbers, aboveLimit}
-use Rattle.format.specs.Structure.{memberAllowed, flowAllowed}
+use Rattle.format.specs.Structure.{flowAllowed}
 use Rattle.format.specs.WellFormed.{entriesRise, orderly, wellFormed}
 use Rattle.format.specs.declared.Refusal.{Refusal}
 use Rattle.format.specs.declared.Reason.the-variants.{NotBound, SetNotAllowed}
@@ -27,14 +26,13 @@ use Rattle.format.proofs.Order.{orderly-iff}
 use Rattle.format.proofs.Rising.{every-append, every-left, every-right}
 use Rattle.format.proofs.Structure.{other-tables, lines-allowed, orderly-of, faultless-of}
 use Rattle.calls.specs.declared.LoadAnswer.{LoadAnswer}
-use Rattle.calls.specs.declared.JudgeAnswer.{JudgeAnswer}
-use Rattle.calls.specs.Answers.{Answer, turnedBack, refusalAnswer, loadAnswer, judgeAnswer}
+use Rattle.calls.specs.Answers.{refusalAnswer, loadAnswer, judgeAnswer}
 use Rattle.calls.specs.Layout.{memberLimit, storeSize, flowAt, flagsOf, encode}
 use Rattle.calls.specs.Judging.{flowTable}
-use Rattle.calls.specs.Calls.{Outcome, opened, counts, andThen, stored, judge}
-use Rattle.calls.specs.Exact.{StoreHolds, JudgeIs}
+use Rattle.calls.specs.Calls.{Outcome, opened, counts, andThen, stored}
+use Rattle.calls.specs.Exact.{StoreHolds}
 use Rattle.calls.proofs.Patches.{patch, patched-before, patched-take, patched-drop}
-use Rattle.calls.proofs.Codec.{all-fit, encode-length}
+use Rattle.calls.proofs.Codec.{all-fit}
 use Rattle.calls.proofs.Codec.Sets.{flags-length}
 use Rattle.calls.proofs.Codec.Adding.{other-flow}
 use Rattle.calls.proofs.Canonical.Lists.{every-intro, low-line}
@@ -43,7 +41,7 @@ use Rattle.calls.proofs.Names.{names-low}
 use Rattle.calls.proofs.Calls.{opened-is, stored-refused, stored-is, stored-opens, stored-loads}
 use Rattle.calls.proofs.Exact.{opened-iff, closed-is, judge-answers}
 use Rattle.replacement.specs.Replacement.{membersOf, withSet, withFlow, isBound, setAllowed, replacing, replace, judgeLeft, preview}
-use Rattle.replacement.specs.Replaced.{handed, MayBeSet, Replaced, ReplaceIs, PreviewIs}
+use Rattle.replacement.specs.Replaced.{MayBeSet, Replaced, ReplaceIs, PreviewIs}
 use Rattle.replacement.proofs.Handed.{allowed-iff, rows-low, handed-is}
 use Rattle.replacement.proofs.Entries.{each-with, with-rises, with-here, with-other}
 
