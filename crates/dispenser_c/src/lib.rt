@@ -7,9 +7,11 @@ use packed_run::moved;
 use thread_records::put_records;
 use thread_records::records_in;
 ghost use mathlib.Core.Path.{_≡_};
+ghost use lib.Dec.{ltb};
 ghost use Rattle.calls.specs.Layout.{storeSize};
 ghost use Rattle.calls.specs.Calls.{load, judge, verdict, write};
 ghost use Rattle.inference.specs.Inference.{infer};
+ghost use Rattle.replacement.specs.Replacement.{replace, preview};
 ghost use Rattle.report.specs.Report.{reportLimit, reported};
 ghost use Rattle.calls.specs.Answers.{loadAnswer, judgeAnswer, verdictAnswer, writeAnswer};
 ghost use Rattle.run_memory.specs.RunMemory.{runSize};
@@ -67,6 +69,24 @@ pub extern "C" fn dispenser_infer(store: &mut [u8]) -> u64
     ensures { λ _. ⌜ now (store .exit) ≡ infer (now (store .entry)) .bytes ⌝ }
 {
     packed_infer::infer(store)
+}
+
+// Puts a set of rows, and unit if it is not 0, in the place of the set of a bound name: rows, flows, comms and claims then.
+#[no_mangle]
+pub extern "C" fn dispenser_replace(store: &mut [u8], name: usize, unit: u8, rows: &[u8]) -> u64
+    ensures { λ n. ⌜ n ≡ packed countBits (loadAnswer (replace (now (store .entry)) name (ltb 0 unit) (now (rows .entry)) .answer)) ⌝ }
+    ensures { λ _. ⌜ now (store .exit) ≡ replace (now (store .entry)) name (ltb 0 unit) (now (rows .entry)) .bytes ⌝ }
+{
+    packed_replace::replace(store, name, 0 < unit, rows)
+}
+
+// Judges the claims of a store with such a set in the place of the set of a bound name: how many there are. The store is as before.
+#[no_mangle]
+pub extern "C" fn dispenser_preview(store: &mut [u8], name: usize, unit: u8, rows: &[u8]) -> u64
+    ensures { λ n. ⌜ n ≡ packed numberBits (judgeAnswer (preview (now (store .entry)) name (ltb 0 unit) (now (rows .entry)))) ⌝ }
+    ensures { λ _. ⌜ now (store .exit) ≡ now (store .entry) ⌝ }
+{
+    packed_preview::preview(store, name, 0 < unit, rows)
 }
 
 // The bytes that the output of a report must have.

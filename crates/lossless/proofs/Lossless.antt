@@ -7,14 +7,14 @@ use mathlib.Core.Path.{_≡_, refl}
 use lib.ListN.{length, take, drop, length-take}
 use lib.Dec.{ltb}
 use Rattle.program.specs.Each.{Each, nil, _&_}
-use Rattle.program.proofs.Test.{and-left}
 use Rattle.format.specs.Limits.{rowLimit}
+use Rattle.format.proofs.Structure.{orderly-of}
 use Rattle.format.specs.Text.{Bytes}
 use Rattle.format.specs.declared.Reason.the-variants.{StoreTooShort, OutputTooShort}
 use Rattle.format.specs.Refusals.{refusal, Result, refused, accepted}
 use Rattle.format.specs.Document.{Document}
 use Rattle.format.specs.Print.{documentText}
-use Rattle.format.specs.WellFormed.{orderly, wellFormed}
+use Rattle.calls.specs.declared.LoadAnswer.{LoadAnswer}
 use Rattle.calls.specs.declared.WriteAnswer.{WriteAnswer}
 use Rattle.calls.specs.Answers.{Answer, turnedBack, answered, refusalAnswer, loadAnswer, judgeAnswer, verdictAnswer, writeAnswer}
 use Rattle.calls.specs.Layout.{storeSize, decode}
@@ -24,12 +24,15 @@ use Rattle.calls.specs.Calls.{opened, andThen, load, judge, verdict, written, w
 use Rattle.report.specs.Report.{report, reportLimit, Reporting, reported}
 use Rattle.calls.proofs.Canonical.Rows.{count-rows-le}
 use Rattle.calls.proofs.Codec.Sparse.{either}
-use Rattle.calls.specs.Exact.{Closed}
+use Rattle.calls.specs.Exact.{StoreHolds, Closed}
 use Rattle.calls.proofs.Exact.{holds-well}
 use Rattle.inference.specs.Inference.{infer}
 use Rattle.inference.specs.Inferred.{InferIs}
 use Rattle.inference.proofs.Inference.{infer-exact}
-use Rattle.bounds.proofs.Bounds.{orderly-few, Within, line-within, values-within, OpensTo, not-opened, decoded, opens-to, load-within, judge-within, verdict-within, every-word}
+use Rattle.replacement.specs.Replacement.{replace, judgeLeft, preview}
+use Rattle.replacement.specs.Replaced.{ReplaceIs}
+use Rattle.replacement.proofs.Replacement.{replace-exact}
+use Rattle.bounds.proofs.Bounds.{orderly-few, Within, lastLine, line-within, values-within, OpensTo, not-opened, decoded, opens-to, load-within, judge-within, verdict-within, every-word}
 use Rattle.store.specs.Document.{storeDocument}
 use Rattle.store.proofs.Document.{document-is}
 use Rattle.report.proofs.Report.{report-short}
@@ -88,20 +91,50 @@ report-within file store out = go (ltb (length store) storeSize) (ltb (length ou
     go false true = line-within {l = 0} (omega arith)
     go false false = values-within (report-short file & nil)
 
--- ---- infer
+-- ---- infer, replace and preview
+
+closed-within : (store : Bytes) (value : ℕ) (a : Answer) → Closed store a → Within 0 value a
+closed-within store value a (Closed.too-short l) = line-within {l = 0} (omega arith)
+closed-within store value a (Closed.empty l z) = line-within {l = 0} (omega arith)
+closed-within store value a (Closed.unsound l z h) = line-within {l = 0} (omega arith)
+
+-- the counts of a document that a store holds
+counts-within : (store : Bytes) (d : Document) → StoreHolds store d
+    → Within 0 rowLimit (answered (length (d .rows) ∷ length (d .flows) ∷ length (d .comms) ∷ length (d .claims) ∷ []))
+counts-within store d h =
+    let few = orderly-few d (orderly-of d (holds-well store d h)) in
+    values-within (few .few-rows & few .few-flows & few .few-comms & few .few-claims & nil)
 
 infer-within : (store : Bytes) → Within 0 rowLimit (loadAnswer (infer store .answer))
 infer-within store = go _ (infer-exact store)
   where
     go : (a : Answer) → InferIs store a → Within 0 rowLimit a
-    go a (InferIs.closed (Closed.too-short l) e) = line-within {l = 0} (omega arith)
-    go a (InferIs.closed (Closed.empty l z) e) = line-within {l = 0} (omega arith)
-    go a (InferIs.closed (Closed.unsound l z h) e) = line-within {l = 0} (omega arith)
-    go a (InferIs.infers d d′ h i) =
-        let few = orderly-few d′ (unfold wellFormed in and-left (orderly d′) _ (holds-well (infer store .bytes) d′ (i .holds))) in
-        values-within (few .few-rows & few .few-flows & few .few-comms & few .few-claims & nil)
+    go a (InferIs.closed c e) = closed-within store rowLimit a c
+    go a (InferIs.infers d d′ h i) = counts-within (infer store .bytes) d′ (i .holds)
 
--- ---- the six calls: each answer is packed without loss, so that what a caller reads in the number is the answer
+module _ (store : Bytes) (n : ℕ) (unit : Bool) (rows : Bytes) where
+  replace-is-within : (a : Answer) → ReplaceIs store n unit rows a → Within 0 rowLimit a
+  replace-is-within a (ReplaceIs.closed c e) = closed-within store rowLimit a c
+  replace-is-within a (ReplaceIs.not-bound d h b e) = line-within {l = 0} (omega arith)
+  replace-is-within a (ReplaceIs.not-a-set d h b s e) = line-within {l = 0} (omega arith)
+  replace-is-within a (ReplaceIs.replaces d d′ h b s r) = counts-within (replace store n unit rows .bytes) d′ (r .holds)
+
+  replace-within : Within 0 rowLimit (loadAnswer (replace store n unit rows .answer))
+  replace-within = replace-is-within _ (replace-exact store n unit rows)
+
+  preview-within : Within lastLine rowLimit (judgeAnswer (preview store n unit rows))
+  unfolding preview
+  preview-within = go (replace store n unit rows .answer) replace-within
+    where
+      widened : (a : Answer) → Within 0 rowLimit a → Within lastLine rowLimit a
+      widened a (line-within {l = l} h) = line-within {l = l} (omega arith)
+      widened a (values-within h) = values-within h
+
+      go : (a : LoadAnswer) → Within 0 rowLimit (loadAnswer a) → Within lastLine rowLimit (judgeAnswer (judgeLeft a (replace store n unit rows .bytes)))
+      go (LoadAnswer.Loaded c) h = unfold judgeLeft in judge-within (replace store n unit rows .bytes)
+      go (LoadAnswer.Refused r) h = unfold judgeLeft judgeAnswer in widened (refusalAnswer r) (unfold loadAnswer in h)
+
+-- ---- the calls: each answer is packed without loss, so that what a caller reads in the number is the answer
 
 pub load-lossless : (file store : Bytes) → Lossless countBits (loadAnswer (load file store .answer))
 load-lossless file store = lossless _ _ countBits (omega arith) (omega arith) _ (load-within file store)
@@ -138,3 +171,17 @@ infer-lossless store = lossless 0 rowLimit countBits (omega arith) (omega arith)
 
 pub infer-read : (store : Bytes) → let a = loadAnswer (infer store .answer) in unpacked countBits 4 (packed countBits a) ≡ a
 infer-read store = load-back (infer store .answer) (infer-lossless store)
+
+pub replace-lossless : (store : Bytes) (n : ℕ) (unit : Bool) (rows : Bytes) → Lossless countBits (loadAnswer (replace store n unit rows .answer))
+replace-lossless store n unit rows = lossless 0 rowLimit countBits (omega arith) (omega arith) _ (replace-within store n unit rows)
+
+pub replace-read : (store : Bytes) (n : ℕ) (unit : Bool) (rows : Bytes)
+    → let a = loadAnswer (replace store n unit rows .answer) in unpacked countBits 4 (packed countBits a) ≡ a
+replace-read store n unit rows = load-back (replace store n unit rows .answer) (replace-lossless store n unit rows)
+
+pub preview-lossless : (store : Bytes) (n : ℕ) (unit : Bool) (rows : Bytes) → Lossless numberBits (judgeAnswer (preview store n unit rows))
+preview-lossless store n unit rows = lossless _ _ numberBits (omega arith) (omega arith) _ (preview-within store n unit rows)
+
+pub preview-read : (store : Bytes) (n : ℕ) (unit : Bool) (rows : Bytes)
+    → let a = judgeAnswer (preview store n unit rows) in unpacked numberBits 1 (packed numberBits a) ≡ a
+preview-read store n unit rows = judge-back (preview store n unit rows) (preview-lossless store n unit rows)
