@@ -11,8 +11,10 @@
  * accepted, else they are the number of the refusal. Above them:
  *   refused           the line, 0 for none
  *   load accepted     rows, flows, comms and claims, 8 bits each, lowest first
- *   infer accepted    as load
- *   judge accepted    the count of claims
+ *   infer and replace accepted
+ *                     as load
+ *   judge and preview accepted
+ *                     the count of claims
  *   verdict accepted  one-shot, one-to-one, fan-out, fan-in and one-sync, a bit
  *                     each, lowest first, 1 for yes
  *   write accepted    the bytes written
@@ -45,6 +47,26 @@ uint64_t dispenser_infer(uint8_t *store, size_t store_length);
 
 /* Judges the claims of a store. Refusals 20 to 22, 10 and 11. */
 uint64_t dispenser_judge(const uint8_t *store, size_t store_length);
+
+/* Puts a set in place of a bound name's own: unit is 0 for a set without `u` and
+ * anything else for one with it, rows are the numbers of its rows, a byte each,
+ * rising. The set may be empty (unit 0, rows_length 0, rows still not NULL); the
+ * name then has no flow line. Answers the counts of the outcome, whose text may be
+ * longer than a file. Refusals 20 to 22; 32: no row binds the name, which may be
+ * any number; 33: the rows do not rise (equal ones do not), or one of them is
+ * absent or no value row. A call that is refused alters nothing. */
+uint64_t dispenser_replace(uint8_t *store, size_t store_length,
+                           size_t name, uint8_t unit,
+                           const uint8_t *rows, size_t rows_length);
+
+/* What judge would answer on a copy of the store on which replace was called with
+ * the same set, or the refusal of that replace: 20 to 22, 32 and 33, then 10 and
+ * 11, whose lines count in the text with the set replaced. The set is put in,
+ * judged, and the old one put back, so the store must be writable and no one else
+ * may read it during the call; when it returns, every byte is as it was. */
+uint64_t dispenser_preview(uint8_t *store, size_t store_length,
+                           size_t name, uint8_t unit,
+                           const uint8_t *rows, size_t rows_length);
 
 /* The verdict of a channel row. Refusals 20 to 22, 24 and 10. */
 uint64_t dispenser_verdict(const uint8_t *store, size_t store_length,

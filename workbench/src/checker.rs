@@ -43,10 +43,12 @@ pub enum Reason {
     NotAChannel = 24,
     MoveNotAllowed = 30,
     MoveTooLarge = 31,
+    NotBound = 32,
+    SetNotAllowed = 33,
 }
 
 impl Reason {
-    pub const ALL: [Reason; 18] = [
+    pub const ALL: [Reason; 20] = [
         Reason::FileTooLong,
         Reason::NotALine,
         Reason::NumberAboveLimit,
@@ -65,6 +67,8 @@ impl Reason {
         Reason::NotAChannel,
         Reason::MoveNotAllowed,
         Reason::MoveTooLarge,
+        Reason::NotBound,
+        Reason::SetNotAllowed,
     ];
 
     /// The reason's number.
@@ -103,6 +107,8 @@ impl fmt::Display for Reason {
             Reason::NotAChannel => "the number is not that of a chan row",
             Reason::MoveNotAllowed => "the run rules do not allow the move",
             Reason::MoveTooLarge => "the move needs more cells, frames or threads than there are",
+            Reason::NotBound => "the name is not bound",
+            Reason::SetNotAllowed => "the set does not rise, or holds what a set may not",
         })
     }
 }
@@ -167,6 +173,13 @@ fn decode(answer: u64) -> Result<usize, Refusal> {
     }
 }
 
+/// Row numbers as replace and preview take them. What a byte cannot hold becomes
+/// 255, which is no row either: the set is refused with 33 as it would be.
+pub fn row_bytes(rows: &[usize]) -> Vec<u8> {
+    let byte = |&row: &usize| u8::try_from(row).unwrap_or(u8::MAX);
+    rows.iter().map(byte).collect()
+}
+
 /// A store that owns its bytes.
 #[derive(Clone, Debug, PartialEq, Eq)]
 pub struct Store {
@@ -216,6 +229,19 @@ impl Store {
     /// hold.
     pub fn judge(&self) -> Result<usize, Refusal> {
         decode(ffi::judge(&self.bytes))
+    }
+
+    /// Puts a set, which may be empty, in place of a bound name's own: `u` or
+    /// not, and rising rows.
+    pub fn replace(&mut self, name: usize, unit: bool, rows: &[u8]) -> Result<Counts, Refusal> {
+        let answer = ffi::replace(&mut self.bytes, name, u8::from(unit), rows);
+        decode(answer).map(Counts::of_answer)
+    }
+
+    /// What judge would answer after such a replace, or the refusal of that. The
+    /// library alters the store meanwhile; it is then as it was.
+    pub fn preview(&mut self, name: usize, unit: bool, rows: &[u8]) -> Result<usize, Refusal> {
+        decode(ffi::preview(&mut self.bytes, name, u8::from(unit), rows))
     }
 
     /// The verdict on a channel row.

@@ -29,6 +29,22 @@ extern "C" {
     ) -> u64;
     fn dispenser_infer(store: *mut c_uchar, store_len: usize) -> u64;
     fn dispenser_judge(store: *const c_uchar, store_len: usize) -> u64;
+    fn dispenser_replace(
+        store: *mut c_uchar,
+        store_len: usize,
+        name: usize,
+        unit: u8,
+        rows: *const c_uchar,
+        rows_len: usize,
+    ) -> u64;
+    fn dispenser_preview(
+        store: *mut c_uchar,
+        store_len: usize,
+        name: usize,
+        unit: u8,
+        rows: *const c_uchar,
+        rows_len: usize,
+    ) -> u64;
     fn dispenser_verdict(store: *const c_uchar, store_len: usize, channel: usize) -> u64;
     fn dispenser_write(
         store: *const c_uchar,
@@ -75,7 +91,7 @@ extern "C" {
     ) -> u64;
 }
 
-// SAFETY, of all twelve: pointer and length come from one slice, which stays
+// SAFETY, of all fourteen: pointer and length come from one slice, which stays
 // borrowed for the call, mutably where the function writes; the functions touch
 // no other memory and keep no pointer (promise 1). A thread record has the layout
 // that they expect, and any bytes make one.
@@ -98,6 +114,34 @@ pub fn infer(store: &mut [u8]) -> u64 {
 /// Judges a store.
 pub fn judge(store: &[u8]) -> u64 {
     unsafe { dispenser_judge(store.as_ptr(), store.len()) }
+}
+
+/// Puts a set in place of a name's own.
+pub fn replace(store: &mut [u8], name: usize, unit: u8, rows: &[u8]) -> u64 {
+    unsafe {
+        dispenser_replace(
+            store.as_mut_ptr(),
+            store.len(),
+            name,
+            unit,
+            rows.as_ptr(),
+            rows.len(),
+        )
+    }
+}
+
+/// What judge would answer after such a replace.
+pub fn preview(store: &mut [u8], name: usize, unit: u8, rows: &[u8]) -> u64 {
+    unsafe {
+        dispenser_preview(
+            store.as_mut_ptr(),
+            store.len(),
+            name,
+            unit,
+            rows.as_ptr(),
+            rows.len(),
+        )
+    }
 }
 
 /// The verdict on a number.
