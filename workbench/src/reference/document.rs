@@ -341,6 +341,34 @@ impl Set {
     }
 }
 
+/// A set as it is handed over, in a line or to a call: unit or not, and numbers of
+/// rows in their order, whatever they are.
+#[derive(Clone, Debug, Default, PartialEq, Eq)]
+pub struct Listed {
+    pub unit: bool,
+    pub rows: Vec<usize>,
+}
+
+impl Listed {
+    /// The set, if its numbers rise: "an equal number is not rising".
+    pub fn rising(&self) -> Option<Set> {
+        let rising = self.rows.windows(2).all(|pair| pair[0] < pair[1]);
+        rising.then(|| Set {
+            unit: self.unit,
+            rows: self.rows.iter().copied().collect(),
+        })
+    }
+}
+
+impl From<&Set> for Listed {
+    fn from(set: &Set) -> Listed {
+        Listed {
+            unit: set.unit,
+            rows: set.rows.iter().copied().collect(),
+        }
+    }
+}
+
 /// The claim words.
 #[derive(Clone, Copy, Debug, PartialEq, Eq)]
 pub enum Word {

@@ -10,6 +10,7 @@ pub mod infer;
 pub mod print;
 pub mod read;
 pub mod refusal;
+pub mod replace;
 pub mod run;
 pub mod steps;
 pub mod structure;

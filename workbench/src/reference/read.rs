@@ -5,7 +5,8 @@
 //! load (2 before 3 before 4 before 5)".
 
 use super::document::{
-    Bind, Branch, Claim, Comm, Document, Flow, Form, Row, Set, Word, LAST_NUMBER, MAX_FILE_BYTES,
+    Bind, Branch, Claim, Comm, Document, Flow, Form, Listed, Name, Row, Set, Word, LAST_NUMBER,
+    MAX_FILE_BYTES,
 };
 use super::print::HEADER;
 use super::refusal::{
@@ -38,18 +39,33 @@ pub fn read(file: &[u8]) -> Result<Document, Refusal> {
     Ok(document)
 }
 
+/// The name that a text is, spelled as in a line; it may be above the limit.
+pub fn read_name(text: &str) -> Option<Name> {
+    read_whole(text, Cursor::number)
+}
+
+/// The set that a text is, spelled as in a line, so not empty; its numbers are not
+/// tested.
+pub fn read_set(text: &str) -> Option<Listed> {
+    // In a line a space stands before it.
+    read_whole(&format!(" {text}"), Cursor::set)
+}
+
+fn read_whole<'a, T>(text: &'a str, read: impl FnOnce(&mut Cursor<'a>) -> Option<T>) -> Option<T> {
+    let mut cursor = Cursor {
+        bytes: text.as_bytes(),
+        largest: 0,
+    };
+    let whole = read(&mut cursor)?;
+    cursor.bytes.is_empty().then_some(whole)
+}
+
 /// A line of the four kinds after the header, its numbers not yet tested.
 enum Line {
     Row(usize, Row),
-    Flow(usize, Items),
-    Comm(usize, Items),
+    Flow(usize, Listed),
+    Comm(usize, Listed),
     Claim(usize, Word),
-}
-
-/// A set as written: unit or not, and the numbers in their order.
-struct Items {
-    unit: bool,
-    rows: Vec<usize>,
 }
 
 /// Adds one line to the document, or answers why not.
@@ -74,14 +90,14 @@ fn add_line(document: &mut Document, bytes: &[u8]) -> Result<(), u16> {
             }
             document.rows.push(row);
         }
-        Line::Flow(name, items) => {
+        Line::Flow(name, listed) => {
             test_rising(document.flows.last().map(|flow| flow.name), name)?;
-            let set = rising_set(items)?;
+            let set = rising_set(&listed)?;
             document.flows.push(Flow { name, set });
         }
-        Line::Comm(channel, items) => {
+        Line::Comm(channel, listed) => {
             test_rising(document.comms.last().map(|comm| comm.channel), channel)?;
-            let set = rising_set(items)?;
+            let set = rising_set(&listed)?;
             document.comms.push(Comm { channel, set });
         }
         Line::Claim(channel, word) => {
@@ -115,14 +131,8 @@ fn test_rising(previous: Option<usize>, number: usize) -> Result<(), u16> {
 }
 
 /// The set written, if its numbers rise.
-fn rising_set(items: Items) -> Result<Set, u16> {
-    if items.rows.windows(2).any(|pair| pair[1] <= pair[0]) {
-        return Err(NOT_RISING);
-    }
-    Ok(Set {
-        unit: items.unit,
-        rows: items.rows.into_iter().collect(),
-    })
+fn rising_set(listed: &Listed) -> Result<Set, u16> {
+    listed.rising().ok_or(NOT_RISING)
 }
 
 /// What is left of a line, and the largest number read so far.
@@ -266,7 +276,7 @@ impl<'a> Cursor<'a> {
 
     /// "`u` (unit) first if at all, then rising row numbers, one space between;
     /// it is never written empty". Whether they rise is tested later.
-    fn set(&mut self) -> Option<Items> {
+    fn set(&mut self) -> Option<Listed> {
         self.literal(" [")?;
         let unit = self.literal("u").is_some();
         let mut rows = Vec::new();
@@ -276,7 +286,7 @@ impl<'a> Cursor<'a> {
         while self.literal("]").is_none() {
             rows.push(self.part()?);
         }
-        Some(Items { unit, rows })
+        Some(Listed { unit, rows })
     }
 
     fn claim_word(&mut self) -> Option<Word> {

@@ -1,8 +1,8 @@
 //! Refusals: "Answer: number and line, lines from 1."
 //!
-//! The numbers are those of "Turned back because of the input" (1 to 11) and,
-//! of "Turned back because of the state", 24. The other state numbers speak of
-//! lent memory, which documents do not have.
+//! The numbers are those of "Turned back because of the input" (1 to 11), of
+//! "Turned back because of the state" 24, and of No. 5 of document 02 both. The
+//! other state numbers speak of lent memory, which documents do not have.
 
 /// Why an input is turned back, and at which line.
 #[derive(Clone, Copy, Debug, PartialEq, Eq)]
@@ -41,3 +41,7 @@ pub const FLOW_RULE: u16 = 10;
 pub const CLAIM: u16 = 11;
 /// "Verdict on a number that isn't a chan row" (line 0).
 pub const NO_CHANNEL: u16 = 24;
+/// "The name isn't bound" (line 0, as all numbers from 30 on).
+pub const NOT_BOUND: u16 = 32;
+/// "The set isn't rising or holds what a set may not".
+pub const SET_NOT_ALLOWED: u16 = 33;
