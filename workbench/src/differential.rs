@@ -8,17 +8,21 @@ mod files;
 mod lent;
 mod lent_runs;
 mod machines;
+mod replacing;
 mod run_cases;
 mod schedules;
 mod stores;
 mod watched;
 
-pub use compare::{compare_file, compare_load, compare_store, telling_numbers, Tally};
+pub use compare::{
+    compare_calls, compare_file, compare_load, compare_store, telling_numbers, Tally,
+};
 pub use expected::{load_answer, open};
 pub use files::{draw_file, FileKind};
 pub use lent::Lent;
 pub use lent_runs::{LentRun, LentStore, RunCall};
 pub use machines::{bend, disguise, littered, real_run, sound_run, telling_moves};
+pub use replacing::{compare_replacements, telling_replacements};
 pub use run_cases::compare_runs;
 pub use schedules::{blind_move, likely_move, try_moves, Moves};
 pub use stores::{draw_store, loaded_store, StoreKind};
@@ -47,8 +51,7 @@ pub fn try_case(seed: u64, tally: &mut Tally) -> Result<(), Box<Difference>> {
         2 => {
             let kind = StoreKind::ALL[random.below(StoreKind::ALL.len())];
             let store = draw_store(&mut random, kind);
-            let numbers = telling_numbers(&mut random, &store);
-            (compare_store(&store, &numbers, tally), store)
+            (compare_calls(&mut random, &store, tally), store)
         }
         _ => {
             let rows = 6 + random.below(40);

@@ -7,7 +7,8 @@ use workbench::layout::STORE_SIZE;
 use workbench::reference::document::MAX_FILE_BYTES;
 
 /// Compares so many files of a kind. Load and judge must have given each of the
-/// numbers at least once, so that the files are of their kind; infer as judge.
+/// numbers at least once, so that the files are of their kind; infer as judge, and
+/// replace and preview too where a file was loaded.
 fn compare(kind: FileKind, cases: usize, load: &[u8], judge: &[u8]) {
     let mut random = Random::new(100 + kind as u64);
     let mut tally = Tally::default();
@@ -22,6 +23,10 @@ fn compare(kind: FileKind, cases: usize, load: &[u8], judge: &[u8]) {
     tally.expect("judge", judge);
     let infer: Vec<u8> = judge.iter().map(|&n| if n < 20 { 0 } else { n }).collect();
     tally.expect("infer", &infer);
+    if load.contains(&0) {
+        tally.expect("replace", &[0, 32, 33]);
+        tally.expect("preview", &[10, 32, 33]);
+    }
 }
 
 #[test]

@@ -4,24 +4,24 @@
 
 use workbench::checker::{ffi, Store};
 use workbench::differential::{
-    compare_load, compare_store, draw_store, loaded_store, telling_numbers, Lent, StoreKind, Tally,
+    compare_calls, compare_load, compare_replacements, compare_store, draw_store, loaded_store,
+    Lent, StoreKind, Tally,
 };
-use workbench::generate::{claim_truly, contested, least_document, Random, Size};
+use workbench::generate::{claim_truly, contested, least_document, Random, Replacement, Size};
 use workbench::layout::{claim_place, decode, STORE_SIZE};
 use workbench::reference::check;
 use workbench::reference::document::{Document, LAST_NUMBER, MAX_FILE_BYTES};
 use workbench::reference::print::print;
 use workbench::samples::{A, RECEIPT, TWO_SENDERS};
 
-/// Compares so many stores of a kind; judge must have given each number, and
-/// infer was refused as often as judge was for the store's sake.
+/// Compares so many stores of a kind; judge must have given each number, infer
+/// was refused as often as judge was for the store's sake, and replace as judge.
 fn compare(kind: StoreKind, cases: usize, judge: &[u8]) -> Tally {
     let mut random = Random::new(200 + kind as u64);
     let mut tally = Tally::default();
     for case in 0..cases {
         let store = draw_store(&mut random, kind);
-        let numbers = telling_numbers(&mut random, &store);
-        if let Err(what) = compare_store(&store, &numbers, &mut tally) {
+        if let Err(what) = compare_calls(&mut random, &store, &mut tally) {
             panic!("case {case} of {kind:?}: {what}");
         }
     }
@@ -29,6 +29,14 @@ fn compare(kind: StoreKind, cases: usize, judge: &[u8]) -> Tally {
     tally.expect("judge", judge);
     for number in [20, 21, 22] {
         assert_eq!(tally.count("infer", number), tally.count("judge", number));
+    }
+    for &number in judge {
+        let replace = if number < 20 {
+            [0, 32, 33].to_vec()
+        } else {
+            vec![number]
+        };
+        tally.expect("replace", &replace);
     }
     tally
 }
@@ -84,6 +92,15 @@ fn programs_whose_smallest_tables_are_hard_to_find() {
     compare(StoreKind::Hardest, 400, &[10]);
 }
 
+/// A set for name 4, of unit and row 1.
+fn given() -> [Replacement; 1] {
+    [Replacement {
+        name: 4,
+        unit: 1,
+        rows: vec![1],
+    }]
+}
+
 /// A program of middle size, with tables and claims.
 fn middle_document() -> Document {
     let mut random = Random::new(61);
@@ -109,6 +126,7 @@ fn one_byte_changed_at_every_offset() {
             match decode(&store) {
                 Some(_) => {
                     compare_store(&store, &[0, 1], &mut tally)
+                        .and_then(|()| compare_replacements(&store, &given(), &mut tally))
                         .unwrap_or_else(|what| panic!("{changed} at {offset}: {what}"));
                     sound += 1;
                 }
@@ -130,11 +148,12 @@ fn every_byte_of_the_first_rows() {
         for changed in 0..=255 {
             store[offset] = changed;
             compare_store(&store, &[1], &mut tally)
+                .and_then(|()| compare_replacements(&store, &given(), &mut tally))
                 .unwrap_or_else(|what| panic!("{changed} at {offset}: {what}"));
         }
         store[offset] = byte;
     }
-    for call in ["judge", "infer"] {
+    for call in ["judge", "infer", "replace"] {
         assert!(tally.count(call, 0) > 100 && tally.count(call, 22) > 10_000);
     }
 }
@@ -176,10 +195,13 @@ fn every_length_around_the_fixed_size() {
         let mut store = loaded.clone();
         store.resize(length, 0xc3);
         compare_store(&store, &[0, 1, usize::MAX], &mut tally).unwrap();
-        compare_store(&vec![0; length], &[0], &mut tally).unwrap();
+        compare_replacements(&store, &given(), &mut tally).unwrap();
+        let empty = vec![0; length];
+        compare_store(&empty, &[0], &mut tally).unwrap();
+        compare_replacements(&empty, &given(), &mut tally).unwrap();
     }
     assert_eq!(tally.count("load", 20), 3 * 150);
-    for call in ["judge", "infer"] {
+    for call in ["judge", "infer", "replace"] {
         assert_eq!(tally.count(call, 0), 130);
         assert_eq!(tally.count(call, 20), 2 * 150);
         assert_eq!(tally.count(call, 21), 130);

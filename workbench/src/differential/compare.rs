@@ -4,6 +4,7 @@ use std::collections::BTreeMap;
 
 use super::expected::{self, open};
 use super::lent::Lent;
+use super::replacing::{compare_replacements, telling_replacements};
 use crate::checker::{ffi, Reason};
 use crate::generate::Random;
 use crate::layout::STORE_SIZE;
@@ -109,7 +110,11 @@ fn compare_infer(
     opened: &Result<Document, u64>,
     tally: &mut Tally,
 ) -> Result<(), String> {
-    let (expected, after) = expected::infer(opened, store);
+    let inferred = expected::inferred(opened);
+    let (expected, after) = (
+        expected::counts(&inferred),
+        expected::left(&inferred, store),
+    );
     let mut lent = Lent::holding(store);
     for call in ["infer", "infer after infer"] {
         let answer = ffi::infer(lent.content_mut());
@@ -144,14 +149,27 @@ fn compare_write(
         same_bytes("write", "output", &out, &after)?;
         same_bytes("write", "store", store, &before)?;
     }
-    if let Some(text) = text.filter(|_| length <= MAX_FILE_BYTES) {
-        let mut again = Lent::holding(&[0xff; STORE_SIZE]);
-        let loaded = ffi::load(&text, again.content_mut());
-        if loaded as u8 != 0 || !again.holds(&before[..STORE_SIZE]) {
-            return Err("what write gives does not load back to the same bytes".to_string());
-        }
+    match text {
+        Some(text) => loads_back(&text, &before, expected::counts(opened)),
+        None => Ok(()),
     }
-    Ok(())
+}
+
+/// Fails unless a store's text, where it is short enough for a file, loads back to
+/// the same bytes, with the counts expected.
+pub(super) fn loads_back(text: &[u8], store: &[u8], counts: u64) -> Result<(), String> {
+    if text.len() > MAX_FILE_BYTES {
+        return Ok(());
+    }
+    let mut again = Lent::holding(&[0xff; STORE_SIZE]);
+    let loaded = ffi::load(text, again.content_mut());
+    same_answer("load of what write gives", loaded, counts)?;
+    same_bytes(
+        "load of what write gives",
+        "store",
+        &again,
+        &store[..STORE_SIZE],
+    )
 }
 
 /// Compares load on a file, into a store with anything in it and now and then
@@ -166,8 +184,16 @@ pub fn compare_file(random: &mut Random, file: &[u8], tally: &mut Tally) -> Resu
     let fill = random.below(256) as u8;
     let before: Vec<u8> = (0..length).map(|at| fill ^ at as u8).collect();
     let store = compare_load(file, &before, tally)?;
-    let numbers = telling_numbers(random, &store);
-    compare_store(&store, &numbers, tally)
+    compare_calls(random, &store, tally)
+}
+
+/// Compares all calls but load on a store of any bytes, on numbers and sets drawn
+/// for it.
+pub fn compare_calls(random: &mut Random, store: &[u8], tally: &mut Tally) -> Result<(), String> {
+    let numbers = telling_numbers(random, store);
+    compare_store(store, &numbers, tally)?;
+    let given = telling_replacements(random, store);
+    compare_replacements(store, &given, tally)
 }
 
 /// Numbers to ask the verdict of: some chan rows, other rows, and numbers that

@@ -2,9 +2,10 @@
 
 use crate::layout::{decode, encode, STORE_SIZE};
 use crate::reference::check;
-use crate::reference::document::Document;
+use crate::reference::document::{Document, Listed};
 use crate::reference::infer;
 use crate::reference::refusal::Refusal;
+use crate::reference::replace;
 
 pub const STORE_TOO_SHORT: u64 = 20;
 pub const STORE_EMPTY: u64 = 21;
@@ -53,21 +54,55 @@ pub fn open(store: &[u8]) -> Result<Document, u64> {
     decode(fixed).ok_or(STORE_UNSOUND)
 }
 
-/// What infer answers, and what it leaves of a store.
-pub fn infer(opened: &Result<Document, u64>, store: &[u8]) -> (u64, Vec<u8>) {
-    match opened.as_ref().map(infer::infer) {
-        Ok(document) => {
-            let after = [&encode(&document), &store[STORE_SIZE..]].concat();
-            (answer(Ok(packed_counts(&document))), after)
-        }
-        Err(refused) => (*refused, store.to_vec()),
+/// What a call answers that gives the counts of a document.
+pub fn counts(outcome: &Result<Document, u64>) -> u64 {
+    match outcome {
+        Ok(document) => answer(Ok(packed_counts(document))),
+        Err(refused) => *refused,
     }
+}
+
+/// What is left of a store by a call that puts a document in, or is refused.
+pub fn left(outcome: &Result<Document, u64>, store: &[u8]) -> Vec<u8> {
+    match outcome {
+        Ok(document) => [&encode(document), &store[STORE_SIZE..]].concat(),
+        Err(_) => store.to_vec(),
+    }
+}
+
+/// What infer makes of a document.
+pub fn inferred(opened: &Result<Document, u64>) -> Result<Document, u64> {
+    opened
+        .as_ref()
+        .map(infer::infer)
+        .map_err(|refused| *refused)
+}
+
+/// What replace makes of a document.
+pub fn replaced(
+    opened: &Result<Document, u64>,
+    name: usize,
+    given: &Listed,
+) -> Result<Document, u64> {
+    let document = opened.as_ref().map_err(|refused| *refused)?;
+    replace::replace(document, name, given).map_err(|refused| answer(Err(refused)))
 }
 
 /// What judge answers.
 pub fn judge(opened: &Result<Document, u64>) -> u64 {
     match opened {
         Ok(document) => answer(check::judge(document).map(|claims| claims as u64)),
+        Err(refused) => *refused,
+    }
+}
+
+/// What preview answers.
+pub fn preview(opened: &Result<Document, u64>, name: usize, given: &Listed) -> u64 {
+    match opened {
+        Ok(document) => {
+            let claims = replace::preview(document, name, given);
+            answer(claims.map(|claims| claims as u64))
+        }
         Err(refused) => *refused,
     }
 }

@@ -170,7 +170,7 @@ fn last_name(rows: &[Row], from: usize) -> Name {
 }
 
 /// The value rows among rows.
-fn value_rows(rows: &[Row]) -> Vec<usize> {
+pub fn value_rows(rows: &[Row]) -> Vec<usize> {
     let is_value = |row: &Row| row.bind().is_some_and(|bind| bind.form.is_value());
     (0..rows.len())
         .filter(|&row| is_value(&rows[row]))
