@@ -13,6 +13,12 @@ pub const TWO_RECEIVES: &str = include_str!("../samples/two_receives.txt");
 /// A dose receipt: an order goes to a drum's thread with the channel on which the
 /// drum sends the one receipt back. That channel is claimed one-sync.
 pub const RECEIPT: &str = include_str!("../samples/receipt.txt");
+/// The same with wider tables: by them the drum may send on the channel of orders
+/// too, so that its claim fails. It holds if the set of name 4 is `[u 1]`.
+pub const RECEIPT_WIDE: &str = include_str!("../samples/receipt_wide.txt");
+/// Two sends on one channel that is claimed one-shot, and name 4, of whose set no
+/// rule speaks: it has no line, and may have any.
+pub const FREE_NAME: &str = include_str!("../samples/free_name.txt");
 /// A function that sends once and calls itself.
 pub const LOOP: &str = include_str!("../samples/loop.txt");
 /// A send in each of the two branches of a case.

@@ -1,21 +1,23 @@
-//! The readings of open places, items 1 to 23, 25 and what item 33 says of
+//! The readings of open places, items 1 to 23, 25, 26 and what item 33 says of
 //! verdicts, as far as documents show them: by the reference, with which the
 //! library is compared on every file.
 
 use std::collections::BTreeSet;
 
 use workbench::checker::Store;
-use workbench::differential::{compare_file, Tally};
+use workbench::differential::{compare_file, compare_replacements, loaded_store, Tally};
 use workbench::generate::{
-    chain, contested, file_of_length, least_document, wide_document, Random, Size,
+    chain, contested, file_of_length, least_document, wide_document, Random, Replacement, Size,
 };
 use workbench::reference::check::{self, judge, verdict};
 use workbench::reference::document::{Document, LAST_NUMBER, MAX_FILE_BYTES};
 use workbench::reference::infer::infer;
 use workbench::reference::print::print;
 use workbench::reference::refusal::{refusal, Refusal};
+use workbench::reference::replace::{preview, replace};
 use workbench::reference::steps::{can_share_run, is_walk, part_at_spawn, steps};
 use workbench::reference::structure::scopes;
+use workbench::samples::{a_with, A};
 
 /// What load answers, after the library was compared on the file.
 fn load(file: &[u8]) -> Result<Document, Refusal> {
@@ -828,6 +830,52 @@ fn item_25_one_sync_asks_for_the_same_walk() {
     let sends = sends.each_ref().map(String::as_str);
     let no = "[accepted 0]\n[channel 0 [no no no yes no]]\n";
     assert_eq!(reports(&sends, one_sync), [no, "[refused 11 15]\n"]);
+}
+
+#[test]
+fn item_26_replace_and_preview() {
+    let document = load(A.as_bytes()).unwrap();
+    let store = loaded_store(&document);
+    // What replace and preview give, after the library was compared on the set.
+    let both = |name: usize, unit: u8, rows: &[usize]| {
+        let rows = rows.to_vec();
+        let given = Replacement { name, unit, rows };
+        let set = given.set();
+        let compared = compare_replacements(&store, &[given], &mut Tally::default());
+        assert_eq!(compared, Ok(()));
+        let previewed = preview(&document, name, &set);
+        (replace(&document, name, &set), previewed)
+    };
+    let refused = |number: u16| (Err(refusal(number, 0)), Err(refusal(number, 0)));
+    // A row that is absent, above the limit or no value row is 33; so is a set that
+    // does not rise. 32 comes before 33.
+    let sets: [&[usize]; 8] = [
+        &[9],
+        &[160],
+        &[999],
+        &[0],
+        &[8],
+        &[3, 1],
+        &[3, 3],
+        &[1, 3, 1],
+    ];
+    for rows in sets {
+        for unit in [0, 1] {
+            assert_eq!(both(4, unit, rows), refused(33), "{rows:?}");
+            assert_eq!(both(7, unit, rows), refused(32), "{rows:?}");
+        }
+    }
+    for name in [7, LAST_NUMBER, LAST_NUMBER + 1, usize::MAX] {
+        assert_eq!(both(name, 1, &[]), refused(32), "{name}");
+    }
+    // An empty set takes the flow line away. Preview gives judge's answer.
+    let (outcome, previewed) = both(4, 0, &[]);
+    let outcome = outcome.unwrap();
+    assert_eq!(print(&outcome), a_with("[flow 4 [u]]", "").as_bytes());
+    assert_eq!(check::counts(&outcome), [9, 6, 1, 1]);
+    assert_eq!(previewed, Err(refusal(10, 6)));
+    assert_eq!(previewed, judge(&outcome));
+    assert_eq!(both(4, 1, &[3]).1, Ok(1));
 }
 
 #[test]
