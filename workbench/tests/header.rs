@@ -129,6 +129,36 @@ fn a_caller_in_c_reads_the_five_words_of_a_verdict() {
 }
 
 #[test]
+fn a_caller_in_c_previews_and_replaces_sets() {
+    let (status, text) = run(&program("replaced"), A);
+    assert_eq!(status, Some(0));
+    // Above the number: the claims or the line of a preview, and of a replace the
+    // counts of claims, comms, flows and rows, two digits each.
+    let expected = [
+        "preview 0 1 same",
+        "preview 10 6 same",
+        "preview 0 1 same",
+        "replace 0 1010709 altered",
+        "judge 0 1 same",
+        "replace 0 1010609 altered",
+        "judge 10 6 same",
+        "replace 0 1010709 altered",
+        "judge 0 1 same",
+        "replace 32 0 same",
+        "preview 32 0 same",
+        "preview 32 0 same",
+        "replace 33 0 same",
+        "preview 33 0 same",
+        "replace 33 0 same",
+        "short 20 0 same",
+        "short 20 0 same",
+        "replace 21 0 same",
+        "preview 21 0 same",
+    ];
+    assert_eq!(text.lines().collect::<Vec<_>>(), expected);
+}
+
+#[test]
 fn a_caller_in_c_runs_listing_a_to_the_end() {
     let program = program("run_a");
     let printed = |file: &str| run(&program, file);
