@@ -12,11 +12,12 @@ pub use walks::{breaking_walks, BreakingWalks};
 use std::ops::Range;
 
 use crate::reference::check;
-use crate::reference::document::{Document, MAX_FILE_BYTES};
+use crate::reference::document::{Document, Listed, Name, MAX_FILE_BYTES};
 use crate::reference::read::read;
 use crate::reference::refusal::{
-    Refusal, BOUND_EARLIER, CLAIM, FLOW_RULE, MISNAMED, OUT_OF_SCOPE, POINTER, TOO_LONG,
+    Refusal, BOUND_EARLIER, FLOW_RULE, MISNAMED, NOT_BOUND, OUT_OF_SCOPE, POINTER, TOO_LONG,
 };
+use crate::reference::replace::replace;
 
 /// Why a file is refused.
 #[derive(Clone, Debug, Default, PartialEq, Eq)]
@@ -48,9 +49,10 @@ impl Explanation {
 
 /// Why a file is refused as told; none if the reference answers otherwise.
 pub fn explain(file: &[u8], refused: Refusal) -> Option<Explanation> {
-    let outcome = check::load(file).and_then(|document| check::judge(&document));
-    if outcome != Err(refused) {
-        return None;
+    match check::load(file) {
+        Ok(document) => return explain_judged(&document, refused),
+        Err(other) if other != refused => return None,
+        Err(_) => {}
     }
     let at = |explanation: fn(&Document, usize) -> Option<Explanation>| {
         explanation(&read(file).ok()?, refused.line)
@@ -64,10 +66,38 @@ pub fn explain(file: &[u8], refused: Refusal) -> Option<Explanation> {
         BOUND_EARLIER => at(structure::binder),
         OUT_OF_SCOPE => at(structure::scope),
         MISNAMED => at(structure::naming),
-        FLOW_RULE => at(flow::rule),
-        CLAIM => at(walks::claim),
         number => shape::line(file, number, refused.line),
     }
+}
+
+/// Why judge refuses a document as told, whose text may be too long for a file;
+/// none if the reference answers otherwise.
+pub fn explain_judged(document: &Document, refused: Refusal) -> Option<Explanation> {
+    if check::judge(document) != Err(refused) {
+        return None;
+    }
+    match refused.number {
+        FLOW_RULE => flow::rule(document, refused.line),
+        _ => walks::claim(document, refused.line),
+    }
+}
+
+/// Why a set is not put in place of a name's own, as told; none if the reference
+/// answers otherwise.
+pub fn explain_replacement(
+    document: &Document,
+    name: Name,
+    given: &Listed,
+    refused: Refusal,
+) -> Option<Explanation> {
+    if replace(document, name, given) != Err(refused) {
+        return None;
+    }
+    let why = match refused.number {
+        NOT_BOUND => vec![structure::bound_nowhere(name)],
+        _ => structure::not_allowed(document, given)?,
+    };
+    Some(Explanation::new(None, why))
 }
 
 /// A list in words: `a`, `a or b`, `a, b or c`.
@@ -77,6 +107,11 @@ fn one_of(items: &[String]) -> String {
         [item] => item.clone(),
         [items @ .., last] => format!("{} or {last}", items.join(", ")),
     }
+}
+
+/// That a row follows another in a set and is not greater.
+fn set_not_rising(one: usize, other: usize) -> String {
+    format!("The rows in a set rise, but {other} follows {one}.")
 }
 
 /// A list of numbers in words, with an article: `row 3`, `rows 3, 4 and 5`.

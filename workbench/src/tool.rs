@@ -1,9 +1,10 @@
 //! The tool: what the proved checker says of files, and why; files with their
-//! smallest tables; and runs, move by move.
+//! smallest tables, or with one set replaced; and runs, move by move.
 
 mod arguments;
 mod json;
 mod outcome;
+mod preview;
 mod report;
 mod tables;
 mod watch;
@@ -14,6 +15,7 @@ use std::process::ExitCode;
 
 use arguments::{parse, Command, USAGE};
 use outcome::{check, Outcome};
+use tables::{Changed, Given};
 use watch::Format;
 
 use crate::reference::document::MAX_FILE_BYTES;
@@ -44,7 +46,15 @@ pub fn main() -> ExitCode {
                 false => report::text(file, outcome, colours),
             })
         }
-        Command::Infer { file, diff } => infer(&mut stdout, &file, diff),
+        Command::Infer { file, diff } => {
+            let inferred = tables::infer(&file);
+            changed(&mut stdout, &file, inferred, diff)
+        }
+        Command::Preview { file, given, json } => preview(&mut stdout, &file, &given, json),
+        Command::Replace { file, given, diff } => {
+            let replaced = tables::replace(&file, &given);
+            changed(&mut stdout, &file, replaced, diff)
+        }
         Command::Watch(options) => watch(&mut stdout, &options),
     };
     match outcome {
@@ -89,11 +99,16 @@ fn status(outcome: &Outcome) -> u8 {
     }
 }
 
-/// Prints a file with its smallest tables, or what they change. Whatever else
-/// there is to say goes to standard error, since the output may become a file.
-fn infer(out: &mut impl Write, file: &Path, diff: bool) -> io::Result<u8> {
-    let inferred = match tables::infer(file) {
-        Ok(inferred) => inferred,
+/// Prints a file with other tables, or what they change. Whatever else there is to
+/// say goes to standard error, since the output may become a file.
+fn changed(
+    out: &mut impl Write,
+    file: &Path,
+    changed: Result<Changed, Outcome>,
+    diff: bool,
+) -> io::Result<u8> {
+    let changed = match changed {
+        Ok(changed) => changed,
         Err(outcome) => {
             let colours = io::stderr().is_terminal() && !no_color();
             let name = file.display().to_string();
@@ -102,11 +117,11 @@ fn infer(out: &mut impl Write, file: &Path, diff: bool) -> io::Result<u8> {
         }
     };
     match diff {
-        true => out.write_all(inferred.diff().as_bytes())?,
-        false => out.write_all(&inferred.text)?,
+        true => out.write_all(changed.diff().as_bytes())?,
+        false => out.write_all(&changed.text)?,
     }
     out.flush()?;
-    let bytes = inferred.text.len();
+    let bytes = changed.text.len();
     if bytes > MAX_FILE_BYTES {
         eprintln!(
             "workbench: with these tables {} has {bytes} bytes, and no file of more than \
@@ -115,6 +130,26 @@ fn infer(out: &mut impl Write, file: &Path, diff: bool) -> io::Result<u8> {
         );
     }
     Ok(ACCEPTED)
+}
+
+/// Shows what judge would answer of a file with a given set. A file or set that is
+/// refused is reported as by check.
+fn preview(out: &mut impl Write, file: &Path, given: &Given, json: bool) -> io::Result<u8> {
+    let colours = !json && io::stdout().is_terminal() && !no_color();
+    let name = file.display().to_string();
+    let previewed = preview::preview(file, given);
+    let (shown, status) = match (&previewed, json) {
+        (Ok(preview), true) => (preview::line(&name, preview), status(&preview.then)),
+        (Ok(preview), false) => (
+            preview::text(&name, preview, colours),
+            status(&preview.then),
+        ),
+        (Err(outcome), true) => (json::line(&name, outcome), status(outcome)),
+        (Err(outcome), false) => (report::text(&name, outcome, colours), status(outcome)),
+    };
+    out.write_all(shown.as_bytes())?;
+    out.flush()?;
+    Ok(status)
 }
 
 /// Watches a run of a file's program. A file that cannot be loaded is reported as

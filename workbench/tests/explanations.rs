@@ -4,15 +4,18 @@
 use std::collections::BTreeMap;
 
 use workbench::differential::{draw_file, FileKind};
-use workbench::explain::{breaking_walks, demands, explain, BreakingWalks};
+use workbench::explain::{breaking_walks, demands, explain, explain_replacement, BreakingWalks};
 use workbench::generate::{
-    claim_anything, contested, least_document, loose_document, wide_document, Random, Size,
+    claim_anything, contested, draw_replacement, least_document, loose_document, wide_document,
+    Random, Size,
 };
 use workbench::reference::check::{judge, load};
 use workbench::reference::document::Word;
 use workbench::reference::flow::rule_holds;
 use workbench::reference::infer::infer;
 use workbench::reference::print::print;
+use workbench::reference::refusal::refusal;
+use workbench::reference::replace::replace;
 use workbench::reference::run::End;
 use workbench::reference::steps::{begins, can_share_run, is_walk, steps};
 use workbench::reference::verdict::{places, verdict, word_holds};
@@ -232,12 +235,45 @@ fn every_refusal_is_explained() {
 }
 
 #[test]
+fn a_set_that_is_refused_is_explained() {
+    let mut random = Random::new(75);
+    let mut explained = BTreeMap::new();
+    for _ in 0..2_000 {
+        let size = Size {
+            rows: 4 + random.below(24),
+            names: 60,
+        };
+        let document = loose_document(&mut random, size);
+        let given = draw_replacement(&mut random, &document);
+        let (name, set) = (given.name, given.set());
+        let outcome = replace(&document, name, &set);
+        for number in [32, 33] {
+            let told = refusal(number, 0);
+            let explanation = explain_replacement(&document, name, &set, told);
+            assert_eq!(explanation.is_some(), outcome == Err(told), "{given:?}");
+            let Some(explanation) = explanation else {
+                continue;
+            };
+            let rising = set.rising().is_some();
+            let begin = match (number, rising) {
+                (32, _) => format!("Name {name} is bound nowhere"),
+                (_, true) => "A set holds `u` and value rows, but row ".to_string(),
+                (_, false) => "The rows in a set rise, but ".to_string(),
+            };
+            assert!(explanation.why[0].starts_with(&begin), "{given:?}");
+            *explained.entry((number, rising)).or_insert(0) += 1;
+        }
+    }
+    assert_eq!(explained.len(), 4, "{explained:?}");
+}
+
+#[test]
 fn another_refusal_than_the_references_is_not_explained() {
     let mut random = Random::new(74);
     let size = Size { rows: 9, names: 20 };
     let mut document = loose_document(&mut random, size);
     claim_anything(&mut random, &mut document);
     let file = print(&document);
-    let told = workbench::reference::refusal::refusal(8, 3);
+    let told = refusal(8, 3);
     assert_eq!(explain(&file, told), None);
 }

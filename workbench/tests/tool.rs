@@ -1,43 +1,17 @@
 //! The tool `workbench`, run as a program.
 
-use std::io::Write;
-use std::path::PathBuf;
-use std::process::{Command, Output, Stdio};
+mod folder;
 
+use std::io::Write;
+use std::process::{Command, Stdio};
+
+use folder::{text, Folder};
 use workbench::generate::hardest;
 use workbench::reference::print::print;
 use workbench::samples::{
     a_with, a_without_tables, A, LOOP, RECEIPT, RELAY, SERVER, TWO_RECEIVERS, TWO_RECEIVES,
     TWO_SENDERS, UNPACKING,
 };
-
-/// A folder of its own for each test, with files in it.
-struct Folder {
-    path: PathBuf,
-}
-
-impl Folder {
-    fn new(test: &str) -> Folder {
-        let path = PathBuf::from(env!("CARGO_TARGET_TMPDIR")).join(test);
-        std::fs::create_dir_all(&path).unwrap();
-        Folder { path }
-    }
-
-    fn put(&self, name: &str, content: impl AsRef<[u8]>) -> &Folder {
-        std::fs::write(self.path.join(name), content).unwrap();
-        self
-    }
-
-    fn run(&self, words: &[&str]) -> Output {
-        let mut command = Command::new(env!("CARGO_BIN_EXE_workbench"));
-        command.current_dir(&self.path).args(words);
-        command.stdin(Stdio::null()).output().unwrap()
-    }
-}
-
-fn text(bytes: &[u8]) -> &str {
-    std::str::from_utf8(bytes).expect("the tool prints UTF-8")
-}
 
 /// What the tool prints for one file, which must be refused.
 fn refused(test: &str, content: impl AsRef<[u8]>) -> String {

@@ -2,7 +2,7 @@
 
 use std::ops::Range;
 
-use super::{one_of, Explanation};
+use super::{one_of, set_not_rising, Explanation};
 use crate::reference::document::LAST_NUMBER;
 use crate::reference::print::HEADER;
 use crate::reference::refusal::{ABOVE_LIMIT, NOT_A_LINE, NOT_RISING, OUT_OF_COUNT};
@@ -293,6 +293,6 @@ fn not_rising(before: &[&[u8]], line: &[u8]) -> Option<Explanation> {
     let at = (1..members.len())
         .find(|&at| number(line, &members[at]) <= number(line, &members[at - 1]))?;
     let (one, other) = (number(line, &members[at - 1])?, number(line, &members[at])?);
-    let why = format!("The rows in a set rise, but {other} follows {one}.");
+    let why = set_not_rising(one, other);
     Some(Explanation::at(members[at].clone(), why))
 }

@@ -1,9 +1,9 @@
-//! Refusals 6 to 9: which pointer, binder, use or member is at fault.
+//! Refusals 6 to 9 and 33: which pointer, binder, use or member is at fault.
 
 use std::ops::Range;
 
-use super::{all_rows, Explanation};
-use crate::reference::document::{Document, Form, Name, Part, Row, Set};
+use super::{all_rows, set_not_rising, Explanation};
+use crate::reference::document::{Document, Form, Listed, Name, Part, Row, Set};
 use crate::reference::print::print;
 use crate::reference::structure::{bound_names, scopes};
 use crate::text::{lines, number_places};
@@ -115,8 +115,7 @@ pub fn scope(document: &Document, line: usize) -> Option<Explanation> {
         .find(|(name, _)| !scopes[row].contains(name))?;
     let binds = |from: &usize| document.rows[*from].binders().contains(&name);
     let Some(from) = (0..document.rows.len()).find(binds) else {
-        let why = format!("Name {name} is bound nowhere in the file.");
-        return Some(Explanation::at(place, why));
+        return Some(Explanation::at(place, bound_nowhere(name)));
     };
     let what = binder_in_words(&document.rows[from], name);
     let bound = row_in_words(document, from);
@@ -140,7 +139,7 @@ pub fn naming(document: &Document, line: usize) -> Option<Explanation> {
     let (flows, comms) = (document.flows.len(), document.comms.len());
     if let Some(flow) = document.flows.get(index) {
         if !bound_names(document).contains(&flow.name) {
-            let why = format!("Name {} is bound nowhere in the file.", flow.name);
+            let why = bound_nowhere(flow.name);
             return Some(Explanation::at(places.first()?.clone(), why));
         }
         return member(document, &flow.set, &places);
@@ -162,12 +161,34 @@ pub fn naming(document: &Document, line: usize) -> Option<Explanation> {
 fn member(document: &Document, set: &Set, places: &[Range<usize>]) -> Option<Explanation> {
     let mut members = set.rows.iter().zip(&places[1..]);
     let (&row, place) = members.find(|(&row, _)| !document.is_value_row(row))?;
+    let why = no_value_row(document, row);
+    Some(Explanation::new(Some(place.clone()), why))
+}
+
+/// 33: the number of a given set that does not rise, or its first row that is no
+/// value row.
+pub fn not_allowed(document: &Document, given: &Listed) -> Option<Vec<String>> {
+    let mut pairs = given.rows.windows(2);
+    if let Some(pair) = pairs.find(|pair| pair[1] <= pair[0]) {
+        return Some(vec![set_not_rising(pair[0], pair[1])]);
+    }
+    let mut rows = given.rows.iter();
+    let row = rows.find(|&&row| !document.is_value_row(row))?;
+    Some(no_value_row(document, *row))
+}
+
+/// That no row binds a name.
+pub fn bound_nowhere(name: Name) -> String {
+    format!("Name {name} is bound nowhere in the file.")
+}
+
+/// That a row may not be in a set.
+fn no_value_row(document: &Document, row: usize) -> Vec<String> {
     let kind = kind_in_words(document, row);
-    let why = vec![
+    vec![
         format!("A set holds `u` and value rows, but row {row} {kind}."),
         "Value rows are chan, send, recv, pair, left, right and fun.".to_string(),
-    ];
-    Some(Explanation::new(Some(place.clone()), why))
+    ]
 }
 
 fn kind_in_words(document: &Document, row: usize) -> String {

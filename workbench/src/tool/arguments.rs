@@ -3,34 +3,49 @@
 use std::ffi::OsString;
 use std::path::PathBuf;
 
+use super::tables::Given;
 use super::watch::{read_moves, Chosen, Format, Options};
+use crate::reference::document::Listed;
+use crate::reference::read::{read_name, read_set};
 
 pub const USAGE: &str = "\
 usage: workbench check [--json] FILE..
        workbench infer [--diff] FILE
+       workbench preview [--json] FILE NAME SET
+       workbench replace [--diff] FILE NAME SET
        workbench watch [--random SEED [--moves N] | --replay MOVES]
                        [--json | --svg] FILE
 
-check  Checks task files with the proved checker: whether the tables keep the
-       flow rules and every claim holds. A file is accepted, with the verdict on
-       each of its channels, or refused, with the place and the reason.
+check    Checks task files with the proved checker: whether the tables keep the
+         flow rules and every claim holds. A file is accepted, with the verdict
+         on each of its channels, or refused, with the place and the reason.
 
-infer  Prints a task file with the smallest tables that keep the flow rules in
-       place of its own, which may be any or none; rows and claims stay. A file
-       that cannot be loaded is refused as check does, on standard error.
+infer    Prints a task file with the smallest tables that keep the flow rules in
+         place of its own, which may be any or none; rows and claims stay. A file
+         that cannot be loaded is refused as check does, on standard error.
 
-watch  Runs the program of a task file with the proved checker, move by move, and
-       shows after each move where the threads stand, what each can do, which
-       threads wait at which channel, and the moves that are possible. A move is
-       chosen by its number, a line of standard input for each; `u` undoes the
-       last, `q` quits. At the end come the messages that went, and the moves as
-       --replay takes them. The file's tables and claims need not hold.
+preview  Shows what check would say of a task file if SET stood in place of the
+         set of NAME, beside what it says now. Lines count in the text with SET.
+
+replace  Prints a task file with SET in place of the set of NAME. A file or set
+         that is refused is told on standard error.
+
+watch    Runs the program of a task file with the proved checker, move by move,
+         and shows after each move where the threads stand, what each can do,
+         which threads wait at which channel, and the moves that are possible. A
+         move is chosen by its number, a line of standard input for each; `u`
+         undoes the last, `q` quits. At the end come the messages that went, and
+         the moves as --replay takes them. The file's tables and claims need not
+         hold.
+
+NAME and SET are written as in a file, SET as one word of the shell: '[u 3 5]',
+'[3]', or '[]' for the empty set, which has no line in a file.
 
 The file `-` is standard input.
 
-  --json   of check: one JSON object to a line for each file
-  --diff   of infer: what changes, set by set, in place of the file; an empty
-           set, which has no line in a file, is shown as []
+  --json   of check and preview: one JSON object to a line for each file
+  --diff   of infer and replace: what changes, set by set, in place of the file;
+           an empty set is shown as []
 
 Of watch:
 
@@ -44,14 +59,30 @@ Of watch:
 
   --help   this text
 
-Exit status: 0 all accepted, the tables found, or the run watched; 1 some file or
-move refused; 2 bad usage or a file that cannot be read.";
+Exit status: 0 all accepted, the tables found or replaced, or the run watched; 1
+some file, set or move refused; 2 bad usage or a file that cannot be read.";
 
 #[derive(Debug)]
 pub enum Command {
     Help,
-    Check { files: Vec<PathBuf>, json: bool },
-    Infer { file: PathBuf, diff: bool },
+    Check {
+        files: Vec<PathBuf>,
+        json: bool,
+    },
+    Infer {
+        file: PathBuf,
+        diff: bool,
+    },
+    Preview {
+        file: PathBuf,
+        given: Given,
+        json: bool,
+    },
+    Replace {
+        file: PathBuf,
+        given: Given,
+        diff: bool,
+    },
     Watch(Options),
 }
 
@@ -62,26 +93,37 @@ pub fn parse(mut words: impl Iterator<Item = OsString>) -> Result<Command, Strin
     };
     match command.to_str() {
         Some("--help" | "-h") => Ok(Command::Help),
-        Some("check") => on_files(words, "--json", |files, json| {
+        Some("check") => on_words(words, "--json", |words, json| {
+            let files = words.into_iter().map(PathBuf::from).collect();
             Ok(Command::Check { files, json })
         }),
-        Some("infer") => on_files(words, "--diff", |files, diff| {
-            let [file] = <[PathBuf; 1]>::try_from(files)
-                .map_err(|files| format!("infer takes one file, not {}", files.len()))?;
+        Some("infer") => on_words(words, "--diff", |words, diff| {
+            let [file] = <[OsString; 1]>::try_from(words)
+                .map_err(|words| format!("infer takes one file, not {}", words.len()))?;
+            let file = file.into();
             Ok(Command::Infer { file, diff })
+        }),
+        Some("preview") => on_words(words, "--json", |words, json| {
+            let (file, given) = file_and_set("preview", words)?;
+            Ok(Command::Preview { file, given, json })
+        }),
+        Some("replace") => on_words(words, "--diff", |words, diff| {
+            let (file, given) = file_and_set("replace", words)?;
+            Ok(Command::Replace { file, given, diff })
         }),
         Some("watch") => watch(words),
         _ => Err(format!("unknown command `{}`", command.display())),
     }
 }
 
-/// A command on the files that the words name, with or without its option.
-fn on_files(
+/// A command on the words that are no options, a file first, with or without its
+/// option.
+fn on_words(
     words: impl Iterator<Item = OsString>,
     option: &str,
-    command: impl FnOnce(Vec<PathBuf>, bool) -> Result<Command, String>,
+    command: impl FnOnce(Vec<OsString>, bool) -> Result<Command, String>,
 ) -> Result<Command, String> {
-    let mut files = vec![];
+    let mut others = vec![];
     let mut asked = false;
     let mut options = true;
     for word in words {
@@ -91,13 +133,34 @@ fn on_files(
             Some("--") if is_option => options = false,
             Some(word) if is_option && word == option => asked = true,
             _ if is_option => return Err(format!("unknown option `{}`", word.display())),
-            _ => files.push(PathBuf::from(word)),
+            _ => others.push(word),
         }
     }
-    if files.is_empty() {
+    if others.is_empty() {
         return Err("no file given".to_string());
     }
-    command(files, asked)
+    command(others, asked)
+}
+
+/// The file, and the set given for a name, that a command takes.
+fn file_and_set(command: &str, words: Vec<OsString>) -> Result<(PathBuf, Given), String> {
+    let [file, name, set] = <[OsString; 3]>::try_from(words).map_err(|words| {
+        let count = words.len();
+        format!("{command} takes FILE NAME SET, not {count} words; quote the set: '[u 3 5]'")
+    })?;
+    let name = name.to_str().and_then(read_name).ok_or(format!(
+        "`{}` is no name: a name is a number of one to three digits, as in a file",
+        name.display()
+    ))?;
+    let set = match set.to_str() {
+        Some("[]") => Listed::default(),
+        text => text.and_then(read_set).ok_or(format!(
+            "`{}` is no set: it is written as in a file, like '[u 3 5]' with `u` first if at \
+             all, or '[]' if it is empty",
+            set.display()
+        ))?,
+    };
+    Ok((file.into(), Given { name, set }))
 }
 
 /// The watch that the words ask for.

@@ -1,26 +1,49 @@
 //! Outcomes as JSON, an object to a line for each file; and the parts of JSON.
 
 use super::outcome::{Channel, Outcome};
+use crate::checker::Refusal;
 use crate::reference::document::Word;
+
+/// A field: its key, and its value as JSON.
+type Field = (&'static str, String);
 
 /// The outcome of one file.
 pub fn line(file: &str, outcome: &Outcome) -> String {
     let mut fields = vec![("file", string(file))];
+    fields.extend(self::outcome(outcome));
+    object(fields) + "\n"
+}
+
+/// What judge answers.
+pub fn answer(answer: Result<usize, Refusal>) -> Vec<Field> {
+    match answer {
+        Ok(claims) => vec![
+            ("accepted", "true".to_string()),
+            ("claims", claims.to_string()),
+        ],
+        Err(Refusal { reason, line }) => vec![
+            ("accepted", "false".to_string()),
+            ("number", reason.number().to_string()),
+            ("line", line.to_string()),
+            ("reason", string(&reason.to_string())),
+        ],
+    }
+}
+
+/// The fields of an outcome.
+pub fn outcome(outcome: &Outcome) -> Vec<Field> {
     match outcome {
         Outcome::Accepted { claims, channels } => {
-            fields.push(("accepted", "true".to_string()));
-            fields.push(("claims", claims.to_string()));
+            let mut fields = answer(Ok(*claims));
             fields.push(("channels", array(channels.iter().map(channel))));
+            fields
         }
         Outcome::Refused {
             refusal,
             line,
             explanation,
         } => {
-            fields.push(("accepted", "false".to_string()));
-            fields.push(("number", refusal.reason.number().to_string()));
-            fields.push(("line", refusal.line.to_string()));
-            fields.push(("reason", string(&refusal.reason.to_string())));
+            let mut fields = answer(Err(*refusal));
             if refusal.line > 0 {
                 fields.push(("text", string(&line.escape_ascii().to_string())));
             }
@@ -39,10 +62,10 @@ pub fn line(file: &str, outcome: &Outcome) -> String {
                     fields.push(("hint", string(hint)));
                 }
             }
+            fields
         }
-        Outcome::Unreadable(message) => fields.push(("error", string(message))),
+        Outcome::Unreadable(message) => vec![("error", string(message))],
     }
-    object(fields) + "\n"
 }
 
 fn channel(channel: &Channel) -> String {

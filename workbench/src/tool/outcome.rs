@@ -5,10 +5,11 @@ use std::fs::File;
 use std::io::{self, Read};
 use std::path::Path;
 
-use crate::checker::{Reason, Refusal, Store, Verdict};
-use crate::explain::{explain, Explanation};
-use crate::reference::document::{Name, Word, MAX_FILE_BYTES};
-use crate::reference::read::read;
+use crate::checker::{Counts, Reason, Refusal, Store, Verdict};
+use crate::explain::{explain, explain_judged, Explanation};
+use crate::layout::decode;
+use crate::reference::document::{Document, Name, Word, MAX_FILE_BYTES};
+use crate::reference::print::print;
 use crate::reference::refusal;
 use crate::text::lines;
 
@@ -38,14 +39,21 @@ pub enum Outcome {
 
 /// Checks a file.
 pub fn check(path: &Path) -> Outcome {
-    let file = match read_file(path) {
-        Ok(file) => file,
-        Err(outcome) => return outcome,
-    };
-    match judged(&file) {
-        Ok((claims, channels)) => Outcome::Accepted { claims, channels },
-        Err(refusal) => refused(&file, refusal),
+    match load(path) {
+        Ok((store, counts)) => judged(&store, counts, store.judge()),
+        Err(outcome) => outcome,
     }
+}
+
+/// Loads a file, with the counts of its lines; the outcome of one that cannot be
+/// read or loaded.
+pub fn load(path: &Path) -> Result<(Store, Counts), Outcome> {
+    let file = read_file(path)?;
+    let mut store = Store::new();
+    let counts = store
+        .load(&file)
+        .map_err(|refusal| refused(&file, refusal))?;
+    Ok((store, counts))
 }
 
 /// The bytes of a file, or the outcome of one that cannot be read.
@@ -72,28 +80,53 @@ fn try_read(path: &Path) -> io::Result<Vec<u8>> {
     Ok(bytes)
 }
 
-/// The outcome of a file that the library refuses.
+/// The outcome of a file that the library does not load.
 pub fn refused(file: &[u8], refusal: Refusal) -> Outcome {
-    let told = refusal::refusal(u16::from(refusal.reason.number()), refusal.line);
+    let explanation = explain(file, told(refusal));
+    refused_at(file, refusal, explanation)
+}
+
+/// A refusal as the reference tells it.
+pub fn told(refusal: Refusal) -> refusal::Refusal {
+    refusal::refusal(u16::from(refusal.reason.number()), refusal.line)
+}
+
+/// The outcome of a text that is refused, maybe at one of its lines.
+pub fn refused_at(text: &[u8], refusal: Refusal, explanation: Option<Explanation>) -> Outcome {
     let line = refusal.line.checked_sub(1);
-    let line = line.and_then(|line| lines(file).get(line).copied());
+    let line = line.and_then(|line| lines(text).get(line).copied());
     let line = line.unwrap_or_default();
     Outcome::Refused {
         refusal,
         line: line.strip_suffix(b"\n").unwrap_or(line).to_vec(),
-        explanation: explain(file, told).map(Box::new),
+        explanation: explanation.map(Box::new),
     }
 }
 
-/// The count of claims and the channels, all by the library; the channels' names
-/// and claims are read from the file.
-fn judged(file: &[u8]) -> Result<(usize, Vec<Channel>), Refusal> {
-    let mut store = Store::new();
-    let counts = store.load(file)?;
-    let claims = store.judge()?;
-    let document = read(file).unwrap_or_default();
+/// The document in a loaded store.
+pub fn document(store: &Store) -> Document {
+    decode(store.bytes()).unwrap_or_default()
+}
+
+/// The outcome of a store, given what judge answers on it. Lines are those of its
+/// text, which may be too long for a file.
+pub fn judged(store: &Store, counts: Counts, answer: Result<usize, Refusal>) -> Outcome {
+    let document = document(store);
+    let channels = answer.and_then(|claims| {
+        let channels = channels(store, counts.rows, &document)?;
+        Ok(Outcome::Accepted { claims, channels })
+    });
+    channels.unwrap_or_else(|refusal| {
+        let explanation = explain_judged(&document, told(refusal));
+        refused_at(&print(&document), refusal, explanation)
+    })
+}
+
+/// The channels with their verdicts, by the library; their names and claims are
+/// read from the document.
+fn channels(store: &Store, rows: usize, document: &Document) -> Result<Vec<Channel>, Refusal> {
     let mut channels = vec![];
-    for row in 0..counts.rows {
+    for row in 0..rows {
         let verdict = match store.verdict(row) {
             Ok(verdict) => verdict,
             Err(refusal) if refusal.reason == Reason::NotAChannel => continue,
@@ -107,5 +140,5 @@ fn judged(file: &[u8]) -> Result<(usize, Vec<Channel>), Refusal> {
             verdict,
         });
     }
-    Ok((claims, channels))
+    Ok(channels)
 }

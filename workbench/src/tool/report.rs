@@ -32,35 +32,47 @@ fn styled(text: &str, style: Style, colours: bool) -> String {
 
 /// The outcome of one file.
 pub fn text(file: &str, outcome: &Outcome, colours: bool) -> String {
-    let file = styled(file, Style::Strong, colours);
     match outcome {
         Outcome::Accepted { claims, channels } => {
-            let hold = match claims {
-                0 => "no claim to judge".to_string(),
-                1 => "1 claim holds".to_string(),
-                _ => format!("{claims} claims hold"),
-            };
-            let accepted = styled("accepted", Style::Good, colours);
-            format!("{file}: {accepted}, {hold}\n{}", table(channels, colours))
+            head(file, Ok(*claims), colours) + &table(channels, colours)
         }
         Outcome::Refused {
             refusal,
             line,
             explanation,
         } => {
-            let Refusal { reason, line: at } = refusal;
-            let number = reason.number();
-            let place = match at {
-                0 => String::new(),
-                _ => format!(" at line {at}"),
-            };
-            let refused = styled(&format!("refused {number}"), Style::Bad, colours);
-            let head = format!("{file}: {refused}{place}: {reason}\n");
-            head + &why(*at, line, explanation.as_deref(), colours)
+            let head = head(file, Err(*refusal), colours);
+            head + &why(refusal.line, line, explanation.as_deref(), colours)
         }
         Outcome::Unreadable(message) => {
+            let file = styled(file, Style::Strong, colours);
             let trouble = styled("not checked", Style::Bad, colours);
             format!("{file}: {trouble}: {message}\n")
+        }
+    }
+}
+
+/// What judge answers of a file, in a line.
+pub fn head(file: &str, answer: Result<usize, Refusal>, colours: bool) -> String {
+    let file = styled(file, Style::Strong, colours);
+    match answer {
+        Ok(claims) => {
+            let hold = match claims {
+                0 => "no claim to judge".to_string(),
+                1 => "1 claim holds".to_string(),
+                _ => format!("{claims} claims hold"),
+            };
+            let accepted = styled("accepted", Style::Good, colours);
+            format!("{file}: {accepted}, {hold}\n")
+        }
+        Err(Refusal { reason, line }) => {
+            let number = reason.number();
+            let place = match line {
+                0 => String::new(),
+                _ => format!(" at line {line}"),
+            };
+            let refused = styled(&format!("refused {number}"), Style::Bad, colours);
+            format!("{file}: {refused}{place}: {reason}\n")
         }
     }
 }

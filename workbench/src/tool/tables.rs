@@ -1,43 +1,83 @@
-//! A file with its smallest tables, by the proved library, and what they change.
+//! A file with other tables, by the proved library, and what they change: its
+//! smallest tables, or a given set in place of a name's own.
 
 use std::collections::BTreeSet;
 use std::path::Path;
 
-use super::outcome::{read_file, refused, Outcome};
-use crate::checker::{Refusal, Store};
-use crate::layout::decode;
-use crate::reference::document::{Document, Set, Table};
+use super::outcome::{document, load, refused_at, told, Outcome};
+use crate::checker::{row_bytes, Counts, Refusal, Store};
+use crate::explain::explain_replacement;
+use crate::reference::document::{Document, Listed, Name, Set, Table};
 use crate::reference::print::table_text;
 
-/// A file with its smallest tables.
-pub struct Inferred {
+/// A file with other tables.
+pub struct Changed {
     /// The file's text with them.
     pub text: Vec<u8>,
-    before: Document,
-    after: Document,
+    pub store: Store,
+    pub counts: Counts,
+    pub before: Document,
+    pub after: Document,
+}
+
+/// A set given for a name.
+#[derive(Debug)]
+pub struct Given {
+    pub name: Name,
+    pub set: Listed,
+}
+
+impl Given {
+    fn replace(&self, store: &mut Store) -> Result<Counts, Refusal> {
+        store.replace(self.name, self.set.unit, &row_bytes(&self.set.rows))
+    }
+
+    /// What judge would answer on a store with the set in place of the name's own.
+    pub fn preview(&self, store: &mut Store) -> Result<usize, Refusal> {
+        store.preview(self.name, self.set.unit, &row_bytes(&self.set.rows))
+    }
+}
+
+/// A store after a call that changes its tables.
+fn changed(
+    mut store: Store,
+    call: impl FnOnce(&mut Store) -> Result<Counts, Refusal>,
+) -> Result<Changed, Refusal> {
+    let before = document(&store);
+    let counts = call(&mut store)?;
+    Ok(Changed {
+        text: store.text()?,
+        after: document(&store),
+        before,
+        counts,
+        store,
+    })
 }
 
 /// Puts the smallest tables into a file; the outcome of one that cannot be read
 /// or loaded.
-pub fn infer(path: &Path) -> Result<Inferred, Outcome> {
-    let file = read_file(path)?;
-    inferred(&file).map_err(|refusal| refused(&file, refusal))
+pub fn infer(path: &Path) -> Result<Changed, Outcome> {
+    let (store, _) = load(path)?;
+    changed(store, Store::infer).map_err(|refusal| refused_at(&[], refusal, None))
 }
 
-fn inferred(file: &[u8]) -> Result<Inferred, Refusal> {
-    let document = |store: &Store| decode(store.bytes()).unwrap_or_default();
-    let mut store = Store::new();
-    store.load(file)?;
-    let before = document(&store);
-    store.infer()?;
-    Ok(Inferred {
-        text: store.text()?,
-        before,
-        after: document(&store),
+/// Puts a given set into a file; the outcome of a file that cannot be read or
+/// loaded, or of a set that is refused.
+pub fn replace(path: &Path, given: &Given) -> Result<Changed, Outcome> {
+    let (store, _) = load(path)?;
+    replaced(store, given)
+}
+
+/// Puts a given set into a store, or the outcome of one that is refused.
+pub fn replaced(store: Store, given: &Given) -> Result<Changed, Outcome> {
+    let document = document(&store);
+    changed(store, |store| given.replace(store)).map_err(|refusal| {
+        let explanation = explain_replacement(&document, given.name, &given.set, told(refusal));
+        refused_at(&[], refusal, explanation)
     })
 }
 
-impl Inferred {
+impl Changed {
     /// Each set that changed, before and after, with the members that went and
     /// those that came; and how many sets changed.
     pub fn diff(&self) -> String {
@@ -61,7 +101,8 @@ impl Inferred {
     }
 }
 
-fn change(table: Table, old: &Set, new: &Set) -> String {
+/// A set before and after, with the members that went and those that came.
+pub fn change(table: Table, old: &Set, new: &Set) -> String {
     let [from, to] = [old, new].map(|set| table_text(table, set));
     let mut text = format!("{from} -> {to}\n");
     for (word, set) in [("went", old.without(new)), ("came", new.without(old))] {

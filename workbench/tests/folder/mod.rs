@@ -1,0 +1,32 @@
+//! The tool run as a program on files in a folder.
+
+use std::path::PathBuf;
+use std::process::{Command, Output, Stdio};
+
+/// A folder of its own for each test, with files in it.
+pub struct Folder {
+    pub path: PathBuf,
+}
+
+impl Folder {
+    pub fn new(test: &str) -> Folder {
+        let path = PathBuf::from(env!("CARGO_TARGET_TMPDIR")).join(test);
+        std::fs::create_dir_all(&path).unwrap();
+        Folder { path }
+    }
+
+    pub fn put(&self, name: &str, content: impl AsRef<[u8]>) -> &Folder {
+        std::fs::write(self.path.join(name), content).unwrap();
+        self
+    }
+
+    pub fn run(&self, words: &[&str]) -> Output {
+        let mut command = Command::new(env!("CARGO_BIN_EXE_workbench"));
+        command.current_dir(&self.path).args(words);
+        command.stdin(Stdio::null()).output().unwrap()
+    }
+}
+
+pub fn text(bytes: &[u8]) -> &str {
+    std::str::from_utf8(bytes).expect("the tool prints UTF-8")
+}
