@@ -5,14 +5,17 @@ use std::hint::black_box;
 use std::time::{Duration, Instant};
 
 use workbench::baseline;
-use workbench::checker::{ffi, Move, Run, Store, Thread};
+use workbench::checker::{ffi, row_bytes, Move, Run, Store, Thread};
 use workbench::differential::{likely_move, Watched};
 use workbench::generate::{dense, file_of_length, hardest, shared, workers, Random, Written};
 use workbench::layout::{encode, LONGEST_TEXT, STORE_SIZE};
 use workbench::reference::check;
-use workbench::reference::document::{Document, Form, Name, MAX_FILE_BYTES, NUMBER_LIMIT};
+use workbench::reference::document::{
+    Document, Flow, Form, Listed, Name, MAX_FILE_BYTES, NUMBER_LIMIT,
+};
 use workbench::reference::infer::infer;
 use workbench::reference::print::print;
+use workbench::reference::replace::{preview, replace};
 use workbench::reference::run::{Environment, LabelKind, Path, Pool, State, Step, Value};
 use workbench::runs::{
     put_cell, put_counts, Cell, Counts, Held, Value as Kept, CELL_LIMIT, RUN_SIZE, THREAD_LIMIT,
@@ -216,6 +219,27 @@ fn bench_infer(input: &Input) {
         &mut || keep(baseline::infer(black_box(&mut other))),
     ]);
     show(&input.name, "infer", &samples);
+}
+
+/// Measures preview and replace on one input, with the greatest set that a name
+/// has, for that name.
+fn bench_replace(input: &Input) {
+    let mut flows: Vec<&Flow> = input.document.flows.iter().collect();
+    flows.sort_by_key(|flow| flow.set.members().count());
+    let flow = flows.last().expect("a set");
+    let (name, set) = (flow.name, Listed::from(&flow.set));
+    let (unit, rows) = (u8::from(set.unit), row_bytes(&set.rows));
+    let mut store = input.store.clone();
+    let samples = measure(&mut [
+        &mut || keep(ffi::preview(black_box(&mut store), name, unit, &rows)),
+        &mut || keep(preview(black_box(&input.document), name, &set)),
+    ]);
+    show(&input.name, "preview", &samples);
+    let samples = measure(&mut [
+        &mut || keep(ffi::replace(black_box(&mut store), name, unit, &rows)),
+        &mut || keep(replace(black_box(&input.document), name, &set)),
+    ]);
+    show(&input.name, "replace", &samples);
 }
 
 /// Says what is in the inputs, so that the table can be read.
@@ -488,6 +512,9 @@ fn main() {
         Input::new("densest tables", dense()),
     ];
     table(&inputs, bench);
+    println!("\nA set put in place of itself\n");
+    head();
+    inputs.iter().for_each(bench_replace);
     println!("\nGrowth with rows\n");
     let sizes = [20, 40, 80, NUMBER_LIMIT];
     let typical = sizes.map(|rows| Input::new(&format!("workers, {rows} rows"), workers(rows)));
