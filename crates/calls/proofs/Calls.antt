@@ -266,19 +266,21 @@ verdict-words store d c e chan keeps = rw (e, chan, verdictOf, no-row, after10)
 
 -- ---- every run
 
+-- of a document whose tables keep the flow rules and whose claims hold: after every list of steps the history of every instance of a claimed channel fits the claimed word
+pub histories-fit : (d : Document) → So (wellFormed d) → KeepsAll (d .rows) (flowTable d) (commTable d) → Each (λ k. WordHolds d (k .channel) (k .word)) (d .claims)
+    → (k : Claim) → Member k (d .claims) → (name : ℕ) → chanAt (d .rows) (k .channel) ≡ some name
+    → (steps : List Step) (maker : Path) → HistoryFits (d .rows) (run (d .rows) steps) (made maker name) (k .word)
+unfolding WordHolds
+histories-fit d w keeps claims k member name chan steps maker =
+    claims-hold (d .rows) (flowTable d) (commTable d) (rows-well d w .0) (keeps-iff (d .rows) (flowTable d) (commTable d) .1 keeps) (k .word) name (k .channel) chan
+    (each-at claims member) steps maker
+
 pub sound : (file store : Bytes) (c : Counts) (n : ℕ) → load file store .answer ≡ LoadAnswer.Loaded c → judge (load file store .bytes) ≡ JudgeAnswer.Accepted n
     → (d : Document) × (file ≡ documentText d) × So (wellFormed d)
     × ((k : Claim) → Member k (d .claims) → (name : ℕ) → chanAt (d .rows) (k .channel) ≡ some name
     → (steps : List Step) (maker : Path) → HistoryFits (d .rows) (run (d .rows) steps) (made maker name) (k .word))
-unfolding WordHolds
 sound file store c n e a =
     let (d, q, w, s, k, m) = loaded-is file store c e in
     let o = opened-loaded d w (drop storeSize store) in
-    let (keeps, claims, _) = judge-accepts (encode d ++ drop storeSize store) d o n .0 (ap judge (sym m) ∙ a) in (
-      d,
-      q,
-      w,
-      λ x member name chan steps maker.
-          claims-hold (d .rows) (flowTable d) (commTable d) (rows-well d w .0) (keeps-iff (d .rows) (flowTable d) (commTable d) .1 keeps) (x .word) name (x .channel) chan
-          (each-at claims member) steps maker,
-    )
+    let (keeps, claims, _) = judge-accepts (encode d ++ drop storeSize store) d o n .0 (ap judge (sym m) ∙ a) in
+    (d, q, w, histories-fit d w keeps claims)

@@ -11,14 +11,16 @@ use lib.Seq.{length-take-le}
 use lib.Dec.{ltb, eqb}
 use borrow.Author.Tests.{ltb-true, ltb-false, eqb-true}
 use Rattle.program.specs.declared.Word.{Word}
-use Rattle.program.specs.Each.{every}
-use Rattle.program.specs.Program.{chanRow}
+use Rattle.program.specs.Each.{every, Member}
+use Rattle.program.specs.Program.{chanAt, chanRow}
+use Rattle.program.specs.Run.{Path, made, Step, run}
+use Rattle.program.specs.History.{HistoryFits}
 use Rattle.program.proofs.Test.{and-left, and-right}
 use Rattle.format.specs.declared.Reason.the-variants.{FlowRuleFails, StoreTooShort, StoreEmpty, StoreUnsound, NotAChannel}
 use Rattle.format.specs.declared.Refusal.{Refusal}
 use Rattle.format.specs.Text.{Bytes}
 use Rattle.format.specs.Refusals.{number, refusal, Result, refused, accepted}
-use Rattle.format.specs.Document.{Document}
+use Rattle.format.specs.Document.{Claim, Document}
 use Rattle.format.specs.Print.{documentText}
 use Rattle.format.specs.Structure.{rowLine}
 use Rattle.format.specs.WellFormed.{wellFormed}
@@ -33,7 +35,7 @@ use Rattle.calls.specs.Calls.{isEmpty, unsound, openedFixed, opened, loa
 use Rattle.calls.specs.Exact.{StoreHolds, Closed, RulesHold, ClaimsHold, JudgeIs, WordIs, VerdictIs}
 use Rattle.calls.proofs.Codec.{unsound-iff}
 use Rattle.calls.proofs.Judging.{Judged, holds, rule-fails, claim-fails, Broken, none-broken, broken-at, broken-is, judge-exact, accepts-iff, word-iff}
-use Rattle.calls.proofs.Calls.{opened-is, opened-loaded, loaded-is, judged-iff, judge-accepts}
+use Rattle.calls.proofs.Calls.{opened-is, opened-loaded, loaded-is, judged-iff, judge-accepts, histories-fit}
 
 -- ---- an empty store is all zero
 
@@ -150,6 +152,12 @@ module _ (store : Bytes) where
           go x (opens d h) j =
               let (r, k, q) = accepts-iff d (holds-well d h) n .0 (unfold andThen in judged-iff (judgeDocument d) n .0 j) in
               (d, h, r, k, q)
+
+  -- soundness of any store that judge accepts, however its bytes came to be there
+  pub accepted-sound : (n : ℕ) → judgeAnswer (judge store) ≡ answered (n ∷ []) → (d : Document) × StoreHolds store d
+      × ((k : Claim) → Member k (d .claims) → (name : ℕ) → chanAt (d .rows) (k .channel) ≡ some name
+      → (steps : List Step) (maker : Path) → HistoryFits (d .rows) (run (d .rows) steps) (made maker name) (k .word))
+  accepted-sound n e = let (d, h, r, k, _) = judge-accepts-iff n .0 e in (d, h, histories-fit d (holds-well d h) r k)
 
   -- ---- verdict
 

@@ -1,7 +1,7 @@
 -- The demands, and what the requests of document 02 promise, as theorems about the definitions of the calls, in document 01's numbers and values (`Answers` of crate calls).
--- Their proofs stand in `Calls`, `Exact` and `Numbers` of crate calls, in `Sound/Histories` of crate program and in crates least, inference, machine and run_calls; here is what they say.
+-- Their proofs stand in `Calls`, `Exact` and `Numbers` of crate calls, in `Sound/Histories` of crate program and in crates least, inference, replacement, machine and run_calls; here is what they say.
 use Prim.Native.Nat.{ℕ, _≤_, _<_}
-use mathlib.Core.Bool.{false, So}
+use mathlib.Core.Bool.{Bool, false, So}
 use mathlib.Core.List.{List, [], _∷_, _++_}
 use mathlib.Core.Option.{some}
 use mathlib.Core.Path.{_≡_, subst}
@@ -33,6 +33,9 @@ use Rattle.least.proofs.Least as least
 use Rattle.inference.specs.Inference.{infer}
 use Rattle.inference.specs.Inferred.{InferIs}
 use Rattle.inference.proofs.Inference as inference
+use Rattle.replacement.specs.Replacement.{replace, preview}
+use Rattle.replacement.specs.Replaced.{ReplaceIs, PreviewIs}
+use Rattle.replacement.proofs.Replacement as replacement
 use Rattle.machine.specs.declared.ThreadRecord.{ThreadRecord}
 use Rattle.machine.specs.Machine.{Order, threadLimit}
 use Rattle.machine.specs.Standing.{Shown}
@@ -110,6 +113,12 @@ pub sound : (file store : Bytes) (ns : List ℕ) (n : ℕ) → loadAnswer (load 
     → (steps : List Step) (maker : Path) → HistoryFits (d .rows) (run (d .rows) steps) (made maker name) (k .word))
 sound = numbers.sound
 
+-- the same of any store that judge accepts, however its bytes came to be there: by load, or by a call of document 02
+pub accepted-sound : (store : Bytes) (n : ℕ) → judgeAnswer (judge store) ≡ answered (n ∷ []) → (d : Document) × StoreHolds store d
+    × ((k : Claim) → Member k (d .claims) → (name : ℕ) → chanAt (d .rows) (k .channel) ≡ some name
+    → (steps : List Step) (maker : Path) → HistoryFits (d .rows) (run (d .rows) steps) (made maker name) (k .word))
+accepted-sound = exact.accepted-sound
+
 -- ---- request No. 1, "The smallest tables from the program alone"
 
 -- infer of any store: 20, 21 and 22 alter nothing; else the rows and claims keep their bytes, the sets "keep every flow rule, and each set lies inside the same set of any other
@@ -172,3 +181,27 @@ one-sync file store ns n e f =
       λ k m w name c steps maker.
           histories.one-sync-iff (d .rows) (run (d .rows) steps) (made maker name) .0 (subst (HistoryFits (d .rows) (run (d .rows) steps) (made maker name)) w (fits k m name c steps maker)),
     )
+
+-- ---- request No. 5, "Try a set before keeping it"
+
+-- replace of any store, name and set: 20 to 22, then 32, then 33; else the document differs in that one set only, the outcome is a store that a file would leave, and the answer is
+-- the counts of its lines (`Replaced`)
+pub replace-exact : (store : Bytes) (n : ℕ) (unit : Bool) (rows : Bytes) → ReplaceIs store n unit rows (loadAnswer (replace store n unit rows .answer))
+replace-exact = replacement.replace-exact
+
+-- "the store is unaltered"
+pub replace-refused : (store : Bytes) (n : ℕ) (unit : Bool) (rows : Bytes) (number line : ℕ) → loadAnswer (replace store n unit rows .answer) ≡ turnedBack number line
+    → replace store n unit rows .bytes ≡ store
+replace-refused = replacement.replace-refused
+
+-- preview "answers what judge would answer on a copy so replaced", or replace's refusal; lines count in the text after the change (`PreviewIs`)
+pub preview-judges : (store : Bytes) (n : ℕ) (unit : Bool) (rows : Bytes) (ns : List ℕ) → loadAnswer (replace store n unit rows .answer) ≡ answered ns
+    → preview store n unit rows ≡ judge (replace store n unit rows .bytes)
+preview-judges = replacement.preview-judges
+
+pub preview-refuses : (store : Bytes) (n : ℕ) (unit : Bool) (rows : Bytes) (number line : ℕ) → loadAnswer (replace store n unit rows .answer) ≡ turnedBack number line
+    → judgeAnswer (preview store n unit rows) ≡ turnedBack number line
+preview-refuses = replacement.preview-refuses
+
+pub preview-exact : (store : Bytes) (n : ℕ) (unit : Bool) (rows : Bytes) → PreviewIs store n unit rows (judgeAnswer (preview store n unit rows))
+preview-exact = replacement.preview-exact

@@ -1,7 +1,7 @@
 -- The demands, of the functions. What each is given here of load, judge, verdict and write is the `ensures` of that function of crate checker, word for word:
 -- the answer and the lent bytes are those of its definition. So what is proved of the definitions (`Demands`) holds of the functions.
 use Prim.Native.Nat.{ℕ, _≤_, _<_}
-use mathlib.Core.Bool.{So}
+use mathlib.Core.Bool.{Bool, So}
 use mathlib.Core.List.{List, [], _∷_, _++_}
 use mathlib.Core.Option.{some}
 use mathlib.Core.Path.{_≡_, refl, sym, ap, ap₂, subst, _∙_}
@@ -27,6 +27,8 @@ use Rattle.calls.specs.Calls.{Outcome, Leaves, unaltered, load, judge, verdict,
 use Rattle.calls.specs.Exact.{StoreHolds, RulesHold, ClaimsHold, JudgeIs, VerdictIs}
 use Rattle.inference.specs.Inference.{infer}
 use Rattle.inference.specs.Inferred.{InferIs}
+use Rattle.replacement.specs.Replacement.{replace, preview}
+use Rattle.replacement.specs.Replaced.{ReplaceIs, PreviewIs}
 use Rattle.machine.specs.declared.ThreadRecord.{ThreadRecord}
 use Rattle.machine.specs.Machine.{Order, threadLimit}
 use Rattle.run_memory.specs.RunMemory.{runSize}
@@ -113,6 +115,12 @@ module _ (store : Bytes) where
     pub judge-exact : JudgeIs store (judgeAnswer answer)
     judge-exact = rw (judges .answer-is) (definitions.judge-exact store)
 
+    -- Demand 3 of any store that the function accepts
+    pub accepted-sound : (n : ℕ) → judgeAnswer answer ≡ answered (n ∷ []) → (d : Document) × StoreHolds store d
+        × ((k : Claim) → Member k (d .claims) → (name : ℕ) → chanAt (d .rows) (k .channel) ≡ some name
+        → (steps : List Step) (maker : Path) → HistoryFits (d .rows) (run (d .rows) steps) (made maker name) (k .word))
+    accepted-sound n e = definitions.accepted-sound store n (ap judgeAnswer (sym (judges .answer-is)) ∙ e)
+
   module _ (c : ℕ) {answer : VerdictAnswer} {left : Bytes} (gives : Leaves (unaltered (verdict store c) store) answer left) where
     pub verdict-unaltered : left ≡ store
     verdict-unaltered = gives .bytes-are
@@ -138,6 +146,37 @@ module _ (store : Bytes) {answer : LoadAnswer} {left : Bytes} (infers : Leaves (
         again .answer-is ∙ ap (λ (o : Outcome LoadAnswer). o .answer) twice ∙ sym (infers .answer-is),
         again .bytes-are ∙ ap (λ (o : Outcome LoadAnswer). o .bytes) twice ∙ sym (infers .bytes-are),
       )
+
+-- replace and preview
+module _ (store : Bytes) (n : ℕ) (unit : Bool) (rows : Bytes) where
+  module _ {answer : LoadAnswer} {left : Bytes} (replaces : Leaves (replace store n unit rows) answer left) where
+    -- Request No. 5: all answers of replace, with what the store then holds
+    pub replace-exact : ReplaceIs store n unit rows (loadAnswer answer)
+    replace-exact = rw (replaces .answer-is) (definitions.replace-exact store n unit rows)
+
+    -- "the store is unaltered"
+    pub replace-refused : (number line : ℕ) → loadAnswer answer ≡ turnedBack number line → left ≡ store
+    replace-refused number line e = replaces .bytes-are ∙ definitions.replace-refused store n unit rows number line (ap loadAnswer (sym (replaces .answer-is)) ∙ e)
+
+  module _ {answer : JudgeAnswer} {after : Bytes} (previews : Leaves (unaltered (preview store n unit rows) store) answer after) where
+    -- "leaves the store unaltered"
+    pub preview-unaltered : after ≡ store
+    preview-unaltered = previews .bytes-are
+
+    pub preview-exact : PreviewIs store n unit rows (judgeAnswer answer)
+    preview-exact = rw (previews .answer-is) (definitions.preview-exact store n unit rows)
+
+    -- "answers what judge would answer on a copy so replaced", where a copy was replaced and judged
+    pub preview-judges : {counts : LoadAnswer} {left : Bytes} → Leaves (replace store n unit rows) counts left → (ns : List ℕ) → loadAnswer counts ≡ answered ns
+        → {judged : JudgeAnswer} {same : Bytes} → Leaves (unaltered (judge left) left) judged same → answer ≡ judged
+    preview-judges replaces ns e judges =
+        previews .answer-is ∙ definitions.preview-judges store n unit rows ns (ap loadAnswer (sym (replaces .answer-is)) ∙ e) ∙ ap judge (sym (replaces .bytes-are)) ∙ sym (judges .answer-is)
+
+    -- or its refusal
+    pub preview-refuses : {counts : LoadAnswer} {left : Bytes} → Leaves (replace store n unit rows) counts left → (number line : ℕ) → loadAnswer counts ≡ turnedBack number line
+        → judgeAnswer answer ≡ turnedBack number line
+    preview-refuses replaces number line e =
+        ap judgeAnswer (previews .answer-is) ∙ definitions.preview-refuses store n unit rows number line (ap loadAnswer (sym (replaces .answer-is)) ∙ e)
 
 -- ---- the run calls: each leaves what its definition gives
 

@@ -77,7 +77,7 @@ pub extern "C" fn dispenser_replace(store: &mut [u8], name: usize, unit: u8, row
     ensures { λ n. ⌜ n ≡ packed countBits (loadAnswer (replace (now (store .entry)) name (ltb 0 unit) (now (rows .entry)) .answer)) ⌝ }
     ensures { λ _. ⌜ now (store .exit) ≡ replace (now (store .entry)) name (ltb 0 unit) (now (rows .entry)) .bytes ⌝ }
 {
-    packed_replace::replace(store, name, 0 < unit, rows)
+    packed_replace::replace(store, name, unit, rows)
 }
 
 // Judges the claims of a store with such a set in the place of the set of a bound name: how many there are. The store is as before.
@@ -86,7 +86,7 @@ pub extern "C" fn dispenser_preview(store: &mut [u8], name: usize, unit: u8, row
     ensures { λ n. ⌜ n ≡ packed numberBits (judgeAnswer (preview (now (store .entry)) name (ltb 0 unit) (now (rows .entry)))) ⌝ }
     ensures { λ _. ⌜ now (store .exit) ≡ now (store .entry) ⌝ }
 {
-    packed_preview::preview(store, name, 0 < unit, rows)
+    packed_preview::preview(store, name, unit, rows)
 }
 
 // The bytes that the output of a report must have.

@@ -26,10 +26,10 @@ use Rattle.format.proofs.Order.{orderly-iff}
 use Rattle.format.proofs.Rising.{every-append, every-left, every-right}
 use Rattle.format.proofs.Structure.{other-tables, lines-allowed, orderly-of, faultless-of}
 use Rattle.calls.specs.declared.LoadAnswer.{LoadAnswer}
-use Rattle.calls.specs.Answers.{refusalAnswer, loadAnswer, judgeAnswer}
+use Rattle.calls.specs.Answers.{turnedBack, answered, refusalAnswer, loadAnswer, judgeAnswer}
 use Rattle.calls.specs.Layout.{memberLimit, storeSize, flowAt, flagsOf, encode}
 use Rattle.calls.specs.Judging.{flowTable}
-use Rattle.calls.specs.Calls.{Outcome, opened, counts, andThen, stored}
+use Rattle.calls.specs.Calls.{Outcome, opened, counts, andThen, stored, judge}
 use Rattle.calls.specs.Exact.{StoreHolds}
 use Rattle.calls.proofs.Patches.{patch, patched-before, patched-take, patched-drop}
 use Rattle.calls.proofs.Codec.{all-fit}
@@ -235,6 +235,35 @@ module _ (store : Bytes) (n : ℕ) (unit : Bool) (rows : Bytes) where
       go o (turns h) = unfold loadAnswer in h
       go o (does d d′ h b k r) =
           subst (λ (o : Outcome LoadAnswer). ReplaceIs store n unit rows (loadAnswer (o .answer))) (sym (stored-is store d′)) (unfold loadAnswer counts in ReplaceIs.replaces d d′ h b k r)
+
+  -- "the store is unaltered"
+  pub replace-refused : (number line : ℕ) → loadAnswer (outcome .answer) ≡ turnedBack number line → outcome .bytes ≡ store
+  unfolding loadAnswer
+  replace-refused number line = go outcome found
+    where
+      go : (o : Outcome LoadAnswer) → Found o → loadAnswer (o .answer) ≡ turnedBack number line → o .bytes ≡ store
+      go o (turns h) e = refl
+      go o (does d d′ h b k r) e =
+          let q : loadAnswer (LoadAnswer.Loaded (counts d′)) ≡ turnedBack number line = ap (λ (o : Outcome LoadAnswer). loadAnswer (o .answer)) (sym (stored-is store d′)) ∙ e in
+          let z : _≡_ {A = ℕ} 0 1 = cc in
+          absurd (omega arith)
+
+  -- preview word for word: judge of what replace leaves, or the refusal of replace
+  pub preview-judges : (ns : List ℕ) → loadAnswer (outcome .answer) ≡ answered ns → preview store n unit rows ≡ judge (outcome .bytes)
+  unfolding preview judgeLeft loadAnswer refusalAnswer
+  preview-judges ns = go (outcome .answer)
+    where
+      go : (a : LoadAnswer) → loadAnswer a ≡ answered ns → judgeLeft a (outcome .bytes) ≡ judge (outcome .bytes)
+      go (LoadAnswer.Loaded c) e = refl
+      go (LoadAnswer.Refused r) e = let z : _≡_ {A = ℕ} 0 1 = cc in absurd (omega arith)
+
+  pub preview-refuses : (number line : ℕ) → loadAnswer (outcome .answer) ≡ turnedBack number line → judgeAnswer (preview store n unit rows) ≡ turnedBack number line
+  unfolding preview judgeLeft loadAnswer judgeAnswer refusalAnswer
+  preview-refuses number line = go (outcome .answer)
+    where
+      go : (a : LoadAnswer) → loadAnswer a ≡ turnedBack number line → judgeAnswer (judgeLeft a (outcome .bytes)) ≡ turnedBack number line
+      go (LoadAnswer.Loaded c) e = let z : _≡_ {A = ℕ} 0 1 = cc in absurd (omega arith)
+      go (LoadAnswer.Refused r) e = e
 
   pub preview-exact : PreviewIs store n unit rows (judgeAnswer (preview store n unit rows))
   unfolding preview
