@@ -1,2 +1,3 @@
 -- Examples by computation.
 mod Called
+mod Replaced
