@@ -38,6 +38,7 @@ withSet n ms es = keep (λ e. ltb (e .key) n) es ++ withEntry n ms (keep (λ e. 
 unfoldable pub withFlow : ℕ → List ℕ → Document → Document
 withFlow n ms d = withTables d (withSet n ms (d .flows)) (d .comms)
 
+-- some row binds the name
 unfoldable pub isBound : Program → ℕ → Bool
 isBound p n = elem n (collect binders p)
 
