@@ -1,7 +1,7 @@
 -- Bytes of which a part was replaced.
 use Prim.Native.Nat.{ℕ, _+_, _-_, _≤_, _<_}
 use mathlib.Core.List.{[], _∷_, _++_, append-assoc}
-use mathlib.Core.Path.{_≡_, refl, sym, ap, _∙_}
+use mathlib.Core.Path.{_≡_, sym, ap, _∙_}
 use native.Mathlib.Omega.{arith}
 use native.Mathlib.Numerals.{add-one}
 use lib.ListN.{length, take, drop, set, length-append, length-drop, take-append-drop}
@@ -37,10 +37,6 @@ patch-back s new at n e l =
 
 pub patched-before : (s new : Bytes) (at : ℕ) → at ≤ length s → take at (patch at new s) ≡ take at s
 patched-before s new at l = take-at (take at s) (new ++ drop (at + length new) s) at (length-take-le at s l)
-
-pub patched-part : (s new : Bytes) (at : ℕ) → at ≤ length s → take (length new) (drop at (patch at new s)) ≡ new
-patched-part s new at l =
-    rw (drop-at (take at s) (new ++ drop (at + length new) s) at (length-take-le at s l)) (take-at new (drop (at + length new) s) (length new) refl)
 
 -- a run of bytes, and one byte
 pub sets-patched : (s : Bytes) (at : ℕ) (new : Bytes) → at + length new ≤ length s → sets s at new ≡ patch at new s

@@ -1,13 +1,13 @@
 -- The list's test row by row, and the marks of what is left of it.
-use Prim.Native.Nat.{ℕ, zero, suc, _+_, _≤_, _<_}
+use Prim.Native.Nat.{ℕ, suc, _+_, _≤_, _<_}
 use native.Mathlib.Omega.{arith}
 use native.Mathlib.Numerals.{add-one}
 use mathlib.Core.Bool.{Bool, true, false, _&&_, So, false≢true}
 use mathlib.Core.List.{[], _∷_, map}
 use mathlib.Core.Path.{_≡_, refl, sym, ap, _∙_}
-use lib.ListN.{length, drop, set, replicate, length-set, length-replicate, List·getD-eq-default}
+use lib.ListN.{length, drop, set, replicate, length-set, length-replicate, List·getD-eq-default, drop-of-length-le}
 use native.Mathlib.Decide.{decLt}
-use lib.Seq.{drop-cons, drop-nil}
+use lib.Seq.{drop-cons}
 use lib.Dec.{ltb, leb}
 use borrow.Author.Tests.{leb-true, le-leb, lt-leb, lt-ltb, ltb-true}
 use Rattle.program.specs.Each.{every, Each, nil, _&_}
@@ -21,12 +21,6 @@ use Rattle.read_sets.specs.Sets.{marks}
 use Rattle.read_sets.proofs.Marks.{marks-flags}
 use Rattle.replacement.specs.Replacement.{membersOf}
 use Rattle.handed_sets.specs.Handed.{listAllowed, Marked}
-
--- past the end there is nothing left
-drop-all : (i : ℕ) (s : Bytes) → length s ≤ i → drop i s ≡ []
-drop-all i [] l = drop-nil i
-drop-all zero (x ∷ s) l = absurd (omega arith)
-drop-all (suc i) (x ∷ s) l = drop-all i s (omega arith)
 
 -- ---- the test
 
@@ -90,7 +84,7 @@ module _ (allowed : Bytes) where
 
   ends : (least i : ℕ) (list : Bytes) → length list ≤ i → passes least (drop i list) ≡ true
   unfolding passes
-  ends least i list l = rw (drop-all i list l)
+  ends least i list l = rw (drop-of-length-le list l)
 
   -- an allowed member has a byte
   pub has-byte : (m : ℕ) {b : ℕ} → b ≡ byteAt allowed m → (b ≡ 0 → ⊥) → m < length allowed
@@ -155,5 +149,5 @@ module _ (unit : Bool) (list allowed : Bytes) {i least : ℕ} {flags : Bytes} (h
   unfolding marks
   a-set l = record {
     answer-is = sym (ends allowed least i list l) ∙ h .decides;
-    flags = λ _. ap (λ (x : Bytes). marks (map suc x) flags) (sym (drop-all i list l)) ∙ h .marked;
+    flags = λ _. ap (λ (x : Bytes). marks (map suc x) flags) (sym (drop-of-length-le list l)) ∙ h .marked;
   }

@@ -3,7 +3,7 @@ use Prim.Native.Nat.{ℕ, zero, suc, min, _+_, _≤_, _<_}
 use native.Mathlib.Omega.{arith}
 use mathlib.Core.List.{List, [], _∷_, _++_, append-nil}
 use mathlib.Core.Path.{_≡_, refl, sym, _∙_, ap, ap₂}
-use lib.ListN.{length, getD, set, take, drop, replicate, length-set, length-append, length-replicate}
+use lib.ListN.{length, getD, set, take, drop, replicate, length-set, length-append, length-replicate, drop-of-length-le}
 use lib.Seq.{append-snoc}
 use Rattle.machine.specs.declared.ThreadRecord.{ThreadRecord}
 use Rattle.machine.specs.Machine.{threadLimit}
@@ -38,12 +38,6 @@ take-all (suc n) [] l = refl
 take-all zero (t ∷ ts) l = absurd (omega arith)
 take-all (suc n) (t ∷ ts) l = ap (λ (l : Threads). t ∷ l) (take-all n ts (omega arith))
 
-drop-all : (n : ℕ) (ts : Threads) → length ts ≤ n → drop n ts ≡ []
-drop-all zero [] l = refl
-drop-all (suc n) [] l = refl
-drop-all zero (t ∷ ts) l = absurd (omega arith)
-drop-all (suc n) (t ∷ ts) l = drop-all n ts (omega arith)
-
 take-append : (xs ys : Threads) (n : ℕ) → n ≤ length xs → take n (xs ++ ys) ≡ take n xs
 take-append xs ys zero l = refl
 take-append [] ys (suc n) l = absurd (omega arith)
@@ -62,7 +56,7 @@ module _ (ts : Threads) (enough : threadLimit ≤ length ts) where
   unfolding recordsIn none
   records-are =
       ap (λ (k : ℕ). copied k ts none) within-is ∙ copied-is threadLimit ts none enough (let z = length-replicate threadLimit noRecord in omega (arith, z))
-      ∙ ap (λ (l : Threads). take threadLimit ts ++ l) (drop-all threadLimit none (let z = length-replicate threadLimit noRecord in omega (arith, z))) ∙ append-nil (take threadLimit ts)
+      ∙ ap (λ (l : Threads). take threadLimit ts ++ l) (drop-of-length-le none {i = threadLimit} (let z = length-replicate threadLimit noRecord in omega (arith, z))) ∙ append-nil (take threadLimit ts)
 
   pub put-is : (r : Records) → length (r .list) ≡ threadLimit → putRecords ts r ≡ r .list ++ drop threadLimit ts
   unfolding putRecords
@@ -81,4 +75,4 @@ put-few ts few r e =
     ap (λ (k : ℕ). copied k ts none) w ∙ copied-is n ts none (omega arith) long ∙ ap (λ (l : Threads). l ++ drop n none) (take-all n ts (omega arith)) in
     let size : n ≤ length (ts ++ drop n none) = (let z = length-append ts (drop n none) in omega (arith, z)) in
     ap₂ (λ (k : ℕ) (l : Threads). copied k l ts) w (e ∙ list) ∙ copied-is n (ts ++ drop n none) ts size (omega arith)
-    ∙ ap₂ _++_ (take-append ts (drop n none) n (omega arith) ∙ take-all n ts (omega arith)) (drop-all n ts (omega arith)) ∙ append-nil ts
+    ∙ ap₂ _++_ (take-append ts (drop n none) n (omega arith) ∙ take-all n ts (omega arith)) (drop-of-length-le ts {i = n} (omega arith)) ∙ append-nil ts

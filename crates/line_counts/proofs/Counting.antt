@@ -1,11 +1,9 @@
 -- How many claims stand from row c on.
-use Prim.Native.Nat.{ℕ, zero, suc, _+_, _≤_, _<_, _-_}
-use native.Mathlib.Omega.{arith}
+use Prim.Native.Nat.{ℕ, suc, _+_, _≤_, _<_, _-_}
 use native.Mathlib.Numerals.{add-one}
-use mathlib.Core.List.{[], _∷_}
 use mathlib.Core.Path.{_≡_, sym, ap, _∙_}
-use lib.ListN.{length, getD, drop, take}
-use lib.Seq.{drop-cons, drop-nil, drop-drop}
+use lib.ListN.{length, getD, drop, take, drop-of-length-le}
+use lib.Seq.{drop-cons, drop-drop}
 use borrow.Author.Tests.{eq-eqb, ne-eqb}
 use Rattle.format.specs.Text.{Bytes}
 use Rattle.format.specs.Limits.{rowLimit}
@@ -29,14 +27,9 @@ module _ (c : ℕ) (s : Bytes) (inside : c < length s) where
   unfolding decodeClaims
   claim-counted d = rw (drop-cons s c 0 inside, ne-eqb (getD s c 0) 0 d, decodeClaims, add-one c)
 
-drop-none : (c : ℕ) (s : Bytes) → length s ≤ c → drop c s ≡ []
-drop-none c [] l = drop-nil c
-drop-none zero (x ∷ s) l = absurd (omega arith)
-drop-none (suc c) (x ∷ s) l = drop-none c s (omega arith)
-
 pub claims-end : (c : ℕ) (s : Bytes) → length s ≤ c → claimsFrom c s ≡ 0
 unfolding decodeClaims
-claims-end c s l = rw (drop-none c s l)
+claims-end c s l = rw (drop-of-length-le s l)
 
 -- the parts of a store behind its rows
 pub counted : (n f c k : ℕ) (s : Bytes)
