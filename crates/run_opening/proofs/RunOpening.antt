@@ -18,8 +18,7 @@ use Rattle.format.specs.Document.{Document}
 use Rattle.calls.specs.Calls.{isEmpty, unsound, openedFixed, opened}
 use Rattle.calls.specs.Canonical.{countRows}
 use Rattle.calls.specs.Layout.{storeSize, decode}
-use Rattle.calls.proofs.Canonical.{rows-decoded}
-use Rattle.store.specs.Rows.{storeRow, storeProgram}
+use Rattle.store.specs.Rows.{storeProgram}
 use Rattle.opening.specs.declared.Opened.{Opened}
 use Rattle.opening.specs.Opening.{OpenedIs}
 use Rattle.opening.proofs.Opening.{refused-is, opens-is}
@@ -29,12 +28,8 @@ use Rattle.run_memory.specs.declared.InUse.{InUse}
 use Rattle.run_memory.specs.RunMemory.{inUse, soundRun}
 use Rattle.run_calls.specs.RunCalls.{tooShort, notBegun, runOpened}
 use Rattle.run_calls.proofs.Opened.{fixed-told, long-opened, long-told, opened-told, is-lent, is-limited}
+use Rattle.store.proofs.Document.{rows-decode}
 use Rattle.run_opening.specs.RunOpening.{RunOpenedIs}
-
--- the rows of a store that opens
-pub program-of : (fixed : Bytes) (n : ℕ) → n ≡ countRows rowLimit fixed → decode fixed .rows ≡ storeProgram n fixed
-unfolding storeProgram storeRow
-program-of fixed n e = rows-decoded fixed ∙ sym (ap (λ (n : ℕ). storeProgram n fixed) e)
 
 module _ (store run : Bytes) (lent : ℕ) (ts : List ThreadRecord) where
   abbrev fixed : Bytes
@@ -83,7 +78,7 @@ module _ (store run : Bytes) (lent : ℕ) (ts : List ThreadRecord) where
         count = opens-is fixed (opened store) rows h .1
 
         program : decode fixed .rows ≡ storeProgram rows fixed
-        program = program-of fixed rows count
+        program = rows-decode fixed rows count
 
         passes : (isEmpty fixed ≡ false) × (unsound fixed ≡ false) × (decode fixed ≡ decode fixed)
         passes = fixed-told fixed (decode fixed) (sym fixed-opened ∙ opens-is fixed (opened store) rows h .0)
