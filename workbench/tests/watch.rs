@@ -95,7 +95,7 @@ move 5: thread 0 from row 6
 move 6: thread 0 to thread 1 on channel row 1 #1: unit
   thread 0   row 8    [row 8 [result 6]]  done
   thread 1   row 5    [row 5 [result 4]]  done
-  1 channel with no thread at it
+  1 channel without a thread
   no move is left
 after 6 moves no move is left
   all 2 threads are done

@@ -102,7 +102,7 @@ pub fn state(program: &Program, view: &View) -> String {
     }
     let idle = view.channels - view.waiting.len().min(view.channels);
     if idle > 0 {
-        text += &format!("  {} with no thread at it\n", count(idle, "channel"));
+        text += &format!("  {} without a thread\n", count(idle, "channel"));
     }
     for (number, (made, channel)) in (1..).zip(&view.moves) {
         let words = match made {
