@@ -20,18 +20,24 @@ unfolding tried variant Answers.refusalAnswer Refusals.number Replacement.member
     Replacement.replacing Calls.stored Replacement.replace Replacement.judgeLeft Replacement.preview
 previewed = let store = Calls.load (file linesA) (replicate Layout.storeSize 7) .bytes in map λ x. Answers.judgeAnswer (Replacement.preview store (x .0) (x .1) (x .2))
 
--- the set that is there, and a wider one: as judge of A; no set: 10 at line 6, as judge of A without flow 4
-allowed : previewed ((4, true, []) ∷ (4, true, 3 ∷ 6 ∷ []) ∷ (4, false, []) ∷ []) ≡ (answered (1 ∷ []) ∷ answered (1 ∷ []) ∷ turnedBack 10 6 ∷ [])
+-- a wider set than the one that is there: as judge of A; no set: 10 at line 6, as judge of A without flow 4; 32 before 33
+answers : previewed ((4, true, 3 ∷ 6 ∷ []) ∷ (4, false, []) ∷ (7, true, 6 ∷ 3 ∷ []) ∷ []) ≡ (answered (1 ∷ []) ∷ turnedBack 10 6 ∷ turnedBack 32 0 ∷ [])
 unfolding previewed
-allowed = refl
+answers = refl
 
--- 32, also where the list falls; 33: falling, equal, no value row, absent, above the limit
-notAllowed : previewed ((7, true, []) ∷ (7, true, 6 ∷ 3 ∷ []) ∷ (4, true, 6 ∷ 3 ∷ []) ∷ (4, true, 3 ∷ 3 ∷ []) ∷ (4, true, 2 ∷ []) ∷ (4, true, 9 ∷ []) ∷ (4, true, 160 ∷ []) ∷ [])
-    ≡ (turnedBack 32 0 ∷ turnedBack 32 0 ∷ turnedBack 33 0 ∷ turnedBack 33 0 ∷ turnedBack 33 0 ∷ turnedBack 33 0 ∷ turnedBack 33 0 ∷ [])
-unfolding previewed
-notAllowed = refl
+-- whether a list of rows may be a set of A's program, without unit and with it
+setsOfA : List Text.Bytes → List (Bool × Bool)
+unfolding tried variant Replacement.membersOf Replacement.setAllowed
+setsOfA = let rows = Layout.decode (Calls.load (file linesA) (replicate Layout.storeSize 7) .bytes) .rows in
+    map λ x. (Replacement.setAllowed rows (Replacement.membersOf false x), Replacement.setAllowed rows (Replacement.membersOf true x))
 
--- what replace answers of them, and what write then gives, where it fits in so many bytes
+-- none, rising; 33: falling, equal, no value row, absent, above the limit
+lists : setsOfA ([] ∷ (1 ∷ 3 ∷ 6 ∷ []) ∷ (6 ∷ 3 ∷ []) ∷ (3 ∷ 3 ∷ []) ∷ (2 ∷ []) ∷ (9 ∷ []) ∷ (160 ∷ []) ∷ [])
+    ≡ ((true, true) ∷ (true, true) ∷ (false, false) ∷ (false, false) ∷ (false, false) ∷ (false, false) ∷ (false, false) ∷ [])
+unfolding setsOfA
+lists = refl
+
+-- what replace answers of a name, a yes or no for unit and a list of rows, and what write then gives, where it fits in so many bytes
 replaced : ℕ → ℕ × Bool × Text.Bytes → Answer × Text.Bytes
 unfolding tried variant Answers.refusalAnswer Refusals.number Replacement.membersOf Replacement.keep Replacement.withSet Replacement.withFlow Replacement.isBound Replacement.setAllowed
     Replacement.replacing Calls.stored Replacement.replace Calls.write Calls.written
@@ -41,7 +47,7 @@ replaced size x =
     let o = Replacement.replace store (x .0) (x .1) (x .2) in
     (Answers.loadAnswer (o .answer), Calls.write (o .bytes) (replicate size 7) .bytes)
 
--- no set: a flow line less, and the text of A without flow 4; 33: the text of A
-lines : (replaced 357 (4, false, []) ≡ (answered (9 ∷ 6 ∷ 1 ∷ 1 ∷ []), variant 15 [])) × (replaced 370 (4, true, 2 ∷ []) ≡ (turnedBack 33 0, file linesA))
+-- no set: a flow line less, and the text of A without flow 4
+lineGone : replaced 357 (4, false, []) ≡ (answered (9 ∷ 6 ∷ 1 ∷ 1 ∷ []), variant 15 [])
 unfolding replaced
-lines = (refl, refl)
+lineGone = refl
