@@ -25,19 +25,35 @@ swap-flow-requires : tie.Need-swap-flow-requires
 swap-flow-requires c κs = swap-ready (rw (c .before .before .before .count .given .1) at (c .before .before .before .before .before .before .replaceable .ensures))
 
 slice-reshare-prefix-judge-rows : tie.Need-slice-reshare-prefix-judge-rows
-slice-reshare-prefix-judge-rows c = left-long (rw (c .before .before .before .before .before .before .before .count .given .1) at (c .before .before .before .before .before .before .before .before .before .before .replaceable .ensures)) (c .before .before .before .swap-flow .ensures .0)
+slice-reshare-prefix-judge-rows c =
+    let at-swap-flow = c .before .before .before in
+    let at-count = at-swap-flow .before .before .before .before in
+    let at-replaceable = at-count .before .before .before in
+    left-long (rw (at-count .count .given .1) at (at-replaceable .replaceable .ensures)) (at-swap-flow .swap-flow .ensures .0)
 
 slice-aggregate-judge-rows : tie.Need-slice-aggregate-judge-rows
-slice-aggregate-judge-rows c = sym (left-size (rw (c .before .before .before .before .before .before .before .before .count .given .1) at (c .before .before .before .before .before .before .before .before .before .before .before .replaceable .ensures)) (c .before .before .before .before .swap-flow .ensures .0))
+slice-aggregate-judge-rows c =
+    let at-swap-flow = c .before .before .before .before in
+    let at-count = at-swap-flow .before .before .before .before in
+    let at-replaceable = at-count .before .before .before in
+    sym (left-size (rw (at-count .count .given .1) at (at-replaceable .replaceable .ensures)) (at-swap-flow .swap-flow .ensures .0))
 
 judge-rows-requires : tie.Need-judge-rows-requires
-judge-rows-requires c κs = (left-size (rw (c .before .before .before .before .before .before .before .before .count .given .1) at (c .before .before .before .before .before .before .before .before .before .before .before .replaceable .ensures)) (c .before .before .before .before .swap-flow .ensures .0), left-counted (rw (c .before .before .before .before .before .before .before .before .count .given .1) at (c .before .before .before .before .before .before .before .before .before .before .before .replaceable .ensures)) (c .before .before .before .before .swap-flow .ensures .0))
+judge-rows-requires c κs =
+    let at-swap-flow = c .before .before .before .before in
+    let at-count = at-swap-flow .before .before .before .before in
+    let at-replaceable = at-count .before .before .before in
+    (left-size (rw (at-count .count .given .1) at (at-replaceable .replaceable .ensures)) (at-swap-flow .swap-flow .ensures .0), left-counted (rw (at-count .count .given .1) at (at-replaceable .replaceable .ensures)) (at-swap-flow .swap-flow .ensures .0))
 
 slice-aggregate-swap-flow-2 : tie.Need-slice-aggregate-swap-flow-2
 slice-aggregate-swap-flow-2 c = search needs
 
 swap-flow-requires-2 : tie.Need-swap-flow-requires-2
-swap-flow-requires-2 c κs = back-ready (rw (c .before .before .before .before .before .before .before .before .before .before .before .count .given .1) at (c .before .before .before .before .before .before .before .before .before .before .before .before .before .before .replaceable .ensures)) (c .before .before .before .before .before .before .before .swap-flow .ensures .0) (c .before .before .before .before .before .before .before .swap-flow .ensures .1)
+swap-flow-requires-2 c κs =
+    let at-swap-flow = c .before .before .before .before .before .before .before in
+    let at-count = at-swap-flow .before .before .before .before in
+    let at-replaceable = at-count .before .before .before in
+    back-ready (rw (at-count .count .given .1) at (at-replaceable .replaceable .ensures)) (at-swap-flow .swap-flow .ensures .0) (at-swap-flow .swap-flow .ensures .1)
 
 same-length : tie.Need-same-length
 same-length c = search needs
@@ -49,7 +65,13 @@ same-length-2 : tie.Need-same-length-2
 same-length-2 c = search needs
 
 returns-2 : tie.Need-returns-2
-returns-2 c = judged-left _ _ _ _ (rw (c .before .before .before .before .before .before .before .before .before .before .before .before .before .before .before .count .given .1) at (c .before .before .before .before .before .before .before .before .before .before .before .before .before .before .before .before .before .before .replaceable .ensures)) (c .before .before .before .before .before .before .before .before .before .before .before .swap-flow .ensures .0) (c .before .before .before .before .before .before .before .before .before .before .before .swap-flow .ensures .1) (c .before .before .before .before .before .before .judge-rows .ensures) (c .before .before .before .swap-flow2 .ensures .0)
+returns-2 c =
+    let at-swap-flow2 = c .before .before .before in
+    let at-judge-rows = at-swap-flow2 .before .before .before in
+    let at-swap-flow = at-judge-rows .before .before .before .before .before in
+    let at-count = at-swap-flow .before .before .before .before in
+    let at-replaceable = at-count .before .before .before in
+    judged-left _ _ _ _ (rw (at-count .count .given .1) at (at-replaceable .replaceable .ensures)) (at-swap-flow .swap-flow .ensures .0) (at-swap-flow .swap-flow .ensures .1) (at-judge-rows .judge-rows .ensures) (at-swap-flow2 .swap-flow2 .ensures .0)
 
 pub preview-spec : {M : Type 1} → statement M
 preview-spec =

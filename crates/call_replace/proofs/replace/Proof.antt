@@ -25,13 +25,25 @@ swap-flow-requires : tie.Need-swap-flow-requires
 swap-flow-requires c κs = swap-ready (rw (c .before .before .before .count .given .1) at (c .before .before .before .before .before .before .replaceable .ensures))
 
 slice-reshare-prefix-store-counts : tie.Need-slice-reshare-prefix-store-counts
-slice-reshare-prefix-store-counts c = left-long (rw (c .before .before .before .before .before .before .before .count .given .1) at (c .before .before .before .before .before .before .before .before .before .before .replaceable .ensures)) (c .before .before .before .swap-flow .ensures .0)
+slice-reshare-prefix-store-counts c =
+    let at-swap-flow = c .before .before .before in
+    let at-count = at-swap-flow .before .before .before .before in
+    let at-replaceable = at-count .before .before .before in
+    left-long (rw (at-count .count .given .1) at (at-replaceable .replaceable .ensures)) (at-swap-flow .swap-flow .ensures .0)
 
 slice-aggregate-store-counts : tie.Need-slice-aggregate-store-counts
-slice-aggregate-store-counts c = sym (left-size (rw (c .before .before .before .before .before .before .before .before .count .given .1) at (c .before .before .before .before .before .before .before .before .before .before .before .replaceable .ensures)) (c .before .before .before .before .swap-flow .ensures .0))
+slice-aggregate-store-counts c =
+    let at-swap-flow = c .before .before .before .before in
+    let at-count = at-swap-flow .before .before .before .before in
+    let at-replaceable = at-count .before .before .before in
+    sym (left-size (rw (at-count .count .given .1) at (at-replaceable .replaceable .ensures)) (at-swap-flow .swap-flow .ensures .0))
 
 store-counts-requires : tie.Need-store-counts-requires
-store-counts-requires c κs = left-size (rw (c .before .before .before .before .before .before .before .before .count .given .1) at (c .before .before .before .before .before .before .before .before .before .before .before .replaceable .ensures)) (c .before .before .before .before .swap-flow .ensures .0)
+store-counts-requires c κs =
+    let at-swap-flow = c .before .before .before .before in
+    let at-count = at-swap-flow .before .before .before .before in
+    let at-replaceable = at-count .before .before .before in
+    left-size (rw (at-count .count .given .1) at (at-replaceable .replaceable .ensures)) (at-swap-flow .swap-flow .ensures .0)
 
 same-length : tie.Need-same-length
 same-length c = search needs
@@ -43,7 +55,11 @@ same-length-2 : tie.Need-same-length-2
 same-length-2 c = search needs
 
 returns-2 : tie.Need-returns-2
-returns-2 c = replaced-left _ _ _ _ (rw (c .before .before .before .before .before .before .before .before .before .count .given .1) at (c .before .before .before .before .before .before .before .before .before .before .before .before .replaceable .ensures)) (c .before .before .before .before .before .swap-flow .ensures .0) (c .store-counts .ensures)
+returns-2 c =
+    let at-swap-flow = c .before .before .before .before .before in
+    let at-count = at-swap-flow .before .before .before .before in
+    let at-replaceable = at-count .before .before .before in
+    replaced-left _ _ _ _ (rw (at-count .count .given .1) at (at-replaceable .replaceable .ensures)) (at-swap-flow .swap-flow .ensures .0) (c .store-counts .ensures)
 
 pub replace-spec : {M : Type 1} → statement M
 replace-spec =

@@ -20,7 +20,9 @@ slice-write-set : tie.Need-slice-write-set Inv-loop μ-loop
 slice-write-set c = omega (arith, ap length (c .before .before .before .before .pre .0))
 
 loop-holds : tie.Need-loop-holds Inv-loop μ-loop
-loop-holds c = ⊎-elim (λ w. with-unit _ _ (c .before .before .before .before .pre .0) (w .0 .taken) (w .1)) (λ w. without-unit _ _ (c .before .before .before .before .pre .0) (w .0 .left) (w .1)) (c .if1 .came)
+loop-holds c =
+    let at-pre = c .before .before .before .before in
+    ⊎-elim (λ w. with-unit _ _ (at-pre .pre .0) (w .0 .taken) (w .1)) (λ w. without-unit _ _ (at-pre .pre .0) (w .0 .left) (w .1)) (c .if1 .came)
 
 byte-at-requires : tie.Need-byte-at-requires Inv-loop μ-loop
 byte-at-requires c κs = search needs
@@ -44,10 +46,18 @@ same-length-2 : tie.Need-same-length-2 Inv-loop μ-loop
 same-length-2 c = search needs
 
 returns-2 : tie.Need-returns-2 Inv-loop μ-loop
-returns-2 c = not-allowed _ _ _ (c .before .before .before .before .before .loop .inv) (c .before .before .before .before .loop-test .taken) (c .before .before .before .byte-at .ensures) (sym (c .before .byte-at2 .ensures) ∙ c .if3 .taken)
+returns-2 c =
+    let at-byte-at = c .before .before .before in
+    let at-loop-test = at-byte-at .before in
+    let at-loop = at-loop-test .before in
+    not-allowed _ _ _ (at-loop .loop .inv) (at-loop-test .loop-test .taken) (at-byte-at .byte-at .ensures) (sym (c .before .byte-at2 .ensures) ∙ c .if3 .taken)
 
 slice-write-set-2 : tie.Need-slice-write-set-2 Inv-loop μ-loop
-slice-write-set-2 c = omega (arith, c .before .before .before .before .before .loop .inv .size, c .before .before .before .before .before .before .before .before .before .before .pre .1, has-byte (c .before .before .before .before .before .before .before .before .before .before .args .allowed .now) (c .before .before .before .byte-at .result + 1) (c .before .byte-at2 .ensures) (c .if3 .left))
+slice-write-set-2 c =
+    let at-byte-at = c .before .before .before in
+    let at-loop = at-byte-at .before .before in
+    let at-pre = at-loop .before .before .before .before .before in
+    omega (arith, at-loop .loop .inv .size, at-pre .pre .1, has-byte (at-pre .args .allowed .now) (at-byte-at .byte-at .result + 1) (c .before .byte-at2 .ensures) (c .if3 .left))
 
 add-i : tie.Need-add-i Inv-loop μ-loop
 add-i c = search needs
@@ -56,7 +66,11 @@ loop-less : tie.Need-loop-less Inv-loop μ-loop
 loop-less c = search needs
 
 loop-again : tie.Need-loop-again Inv-loop μ-loop
-loop-again c = one-more _ _ _ (c .before .before .before .before .before .loop .inv) (c .before .before .before .before .loop-test .taken) (c .before .before .before .byte-at .ensures) (c .before .before .if2 .left) (omega (arith, c .before .byte-at2 .ensures, c .if3 .left))
+loop-again c =
+    let at-byte-at = c .before .before .before in
+    let at-loop-test = at-byte-at .before in
+    let at-loop = at-loop-test .before in
+    one-more _ _ _ (at-loop .loop .inv) (at-loop-test .loop-test .taken) (at-byte-at .byte-at .ensures) (c .before .before .if2 .left) (omega (arith, c .before .byte-at2 .ensures, c .if3 .left))
 
 same-length-3 : tie.Need-same-length-3 Inv-loop μ-loop
 same-length-3 c = search needs

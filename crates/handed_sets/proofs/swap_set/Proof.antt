@@ -27,7 +27,10 @@ slice-read-store : tie.Need-slice-read-store Inv-loop μ-loop
 slice-read-store c = omega arith
 
 slice-write-store : tie.Need-slice-write-store Inv-loop μ-loop
-slice-write-store c = omega (arith, sizes _ _ _ (c .before .before .before .before .pre) _ _ _ (c .before .before .before .loop .inv .1) (c .before .before .before .loop .inv .0))
+slice-write-store c =
+    let at-loop = c .before .before .before in
+    let at-pre = at-loop .before in
+    omega (arith, sizes _ _ _ (at-pre .pre) _ _ _ (at-loop .loop .inv .1) (at-loop .loop .inv .0))
 
 slice-write-set : tie.Need-slice-write-set Inv-loop μ-loop
 slice-write-set c = omega arith
@@ -36,7 +39,10 @@ add-i : tie.Need-add-i Inv-loop μ-loop
 add-i c = search needs
 
 loop-less : tie.Need-loop-less Inv-loop μ-loop
-loop-less c = omega (arith, sizes _ _ _ (c .before .before .before .before .pre) _ _ _ (c .before .before .before .loop .inv .1) (c .before .before .before .loop .inv .0))
+loop-less c =
+    let at-loop = c .before .before .before in
+    let at-pre = at-loop .before in
+    omega (arith, sizes _ _ _ (at-pre .pre) _ _ _ (at-loop .loop .inv .1) (at-loop .loop .inv .0))
 
 loop-again : tie.Need-loop-again Inv-loop μ-loop
 loop-again c =

@@ -31,10 +31,17 @@ refuse-store-requires : tie.Need-refuse-store-requires
 refuse-store-requires c κs = search needs
 
 returns : tie.Need-returns
-returns c = rw (c .refuse-store .ensures) (not-bound _ _ (rw (c .before .before .before .before .before .before .before .before .rows .given .1) at (c .before .before .before .before .before .before .before .before .before .before .«open» .ensures)) _ _ (c .before .before .before .before .before .bound .ensures) _ _ (c .before .before .byte-at .ensures) (c .before .if1 .taken))
+returns c =
+    let at-bound = c .before .before .before .before .before in
+    let at-rows = at-bound .before .before .before in
+    let at-open = at-rows .before .before in
+    rw (c .refuse-store .ensures) (not-bound _ _ (rw (at-rows .rows .given .1) at (at-open .«open» .ensures)) _ _ (at-bound .bound .ensures) _ _ (c .before .before .byte-at .ensures) (c .before .if1 .taken))
 
 allowed-members-requires : tie.Need-allowed-members-requires
-allowed-members-requires c κs = few-rows _ _ (rw (c .before .before .before .before .before .before .before .rows .given .1) at (c .before .before .before .before .before .before .before .before .before .«open» .ensures))
+allowed-members-requires c κs =
+    let at-rows = c .before .before .before .before .before .before .before in
+    let at-open = at-rows .before .before in
+    few-rows _ _ (rw (at-rows .rows .given .1) at (at-open .«open» .ensures))
 
 slice-aggregate-mark-members : tie.Need-slice-aggregate-mark-members
 slice-aggregate-mark-members c = search needs
@@ -46,7 +53,15 @@ same-length : tie.Need-same-length
 same-length c = search needs
 
 returns-2 : tie.Need-returns-2
-returns-2 c = a-set _ _ (rw (c .before .before .before .before .before .before .before .before .before .before .before .before .before .before .rows .given .1) at (c .before .before .before .before .before .before .before .before .before .before .before .before .before .before .before .before .«open» .ensures)) _ (is-bound _ _ (rw (c .before .before .before .before .before .before .before .before .before .before .before .before .before .before .rows .given .1) at (c .before .before .before .before .before .before .before .before .before .before .before .before .before .before .before .before .«open» .ensures)) _ _ (c .before .before .before .before .before .before .before .before .before .before .before .bound .ensures) (c .before .before .before .before .before .before .before .before .byte-at .ensures) (c .before .before .before .before .before .before .before .if1 .left)) _ (c .before .before .before .before .before .before .allowed-members .ensures) (c .before .before .before .mark-members .ensures) (c .if2 .taken)
+returns-2 c =
+    let at-mark-members = c .before .before .before in
+    let at-allowed-members = at-mark-members .before .before .before in
+    let at-if1 = at-allowed-members .before in
+    let at-byte-at = at-if1 .before in
+    let at-bound = at-byte-at .before .before .before in
+    let at-rows = at-bound .before .before .before in
+    let at-open = at-rows .before .before in
+    a-set _ _ (rw (at-rows .rows .given .1) at (at-open .«open» .ensures)) _ (is-bound _ _ (rw (at-rows .rows .given .1) at (at-open .«open» .ensures)) _ _ (at-bound .bound .ensures) (at-byte-at .byte-at .ensures) (at-if1 .if1 .left)) _ (at-allowed-members .allowed-members .ensures) (at-mark-members .mark-members .ensures) (c .if2 .taken)
 
 refuse-store-requires-2 : tie.Need-refuse-store-requires-2
 refuse-store-requires-2 c κs = search needs
@@ -58,7 +73,15 @@ same-length-2 : tie.Need-same-length-2
 same-length-2 c = search needs
 
 returns-4 : tie.Need-returns-4
-returns-4 c = rw (c .refuse-store2 .ensures) (not-a-set _ _ (rw (c .before .before .before .before .before .before .before .before .before .before .before .before .before .before .before .rows .given .1) at (c .before .before .before .before .before .before .before .before .before .before .before .before .before .before .before .before .before .«open» .ensures)) _ (is-bound _ _ (rw (c .before .before .before .before .before .before .before .before .before .before .before .before .before .before .before .rows .given .1) at (c .before .before .before .before .before .before .before .before .before .before .before .before .before .before .before .before .before .«open» .ensures)) _ _ (c .before .before .before .before .before .before .before .before .before .before .before .before .bound .ensures) (c .before .before .before .before .before .before .before .before .before .byte-at .ensures) (c .before .before .before .before .before .before .before .before .if1 .left)) _ (c .before .before .before .before .before .before .before .allowed-members .ensures) (c .before .before .before .before .mark-members .ensures) (c .before .if2 .left))
+returns-4 c =
+    let at-mark-members = c .before .before .before .before in
+    let at-allowed-members = at-mark-members .before .before .before in
+    let at-if1 = at-allowed-members .before in
+    let at-byte-at = at-if1 .before in
+    let at-bound = at-byte-at .before .before .before in
+    let at-rows = at-bound .before .before .before in
+    let at-open = at-rows .before .before in
+    rw (c .refuse-store2 .ensures) (not-a-set _ _ (rw (at-rows .rows .given .1) at (at-open .«open» .ensures)) _ (is-bound _ _ (rw (at-rows .rows .given .1) at (at-open .«open» .ensures)) _ _ (at-bound .bound .ensures) (at-byte-at .byte-at .ensures) (at-if1 .if1 .left)) _ (at-allowed-members .allowed-members .ensures) (at-mark-members .mark-members .ensures) (c .before .if2 .left))
 
 pub replaceable-spec : {M : Type 1} → statement M
 replaceable-spec =

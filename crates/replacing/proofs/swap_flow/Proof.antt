@@ -23,7 +23,10 @@ same-length-2 : tie.Need-same-length-2
 same-length-2 c = search needs
 
 returns : tie.Need-returns
-returns c = (c .before .before .before .before .swap-set .ensures .0, c .before .before .before .before .swap-set .ensures .1 ∙ ap (λ (n : ℕ). take n (drop (flowAt (c .before .before .before .before .before .before .before .before .before .args .name)) (c .before .before .before .before .before .before .before .before .before .args .store .now))) (c .before .before .before .before .before .before .before .before .before .pre .2))
+returns c =
+    let at-swap-set = c .before .before .before .before in
+    let at-args = at-swap-set .before .before .before .before .before in
+    (at-swap-set .swap-set .ensures .0, at-swap-set .swap-set .ensures .1 ∙ ap (λ (n : ℕ). take n (drop (flowAt (at-args .args .name)) (at-args .args .store .now))) (at-args .pre .2))
 
 pub swap-flow-spec : {M : Type 1} → statement M
 swap-flow-spec =
