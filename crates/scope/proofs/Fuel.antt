@@ -42,6 +42,14 @@ module _ (p : Program) (from r : ℕ) (scope : Scope) where
   unfolding rowFault
   row-within k h q = simp (le-ltb r from h, lt-leb (length p) r q)
 
+-- ---- a form by one step
+
+pub case-within : (k : ℕ) (p : Program) (r s x t y w : ℕ) (scope : Scope)
+    → formFault (suc k) p r (Case s x t y w) scope
+    ≡ min (useFault r s scope) (min (rowFault k p (r + 1) t (withName x scope)) (rowFault k p (r + 1) w (withName y scope)))
+unfolding formFault
+case-within k p r s x t y w scope = refl
+
 -- ---- more fuel changes nothing
 
 -- the rows from `from` on come to the same with either fuel

@@ -8,7 +8,7 @@ scope-row-requires : tie.Need-scope-row-requires
 scope-row-requires c κs = search needs
 
 returns : tie.Need-returns
-returns c = rw scope-all (c .scope-row .ensures)
+returns c = rw scope-all (c .scope-row .ensures .0)
 
 pub scope-fault-spec : {M : Type 1} → statement M
 scope-fault-spec = tie.close (tie.spec scope-row-requires returns)
