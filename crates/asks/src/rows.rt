@@ -1,9 +1,10 @@
 // The results that the rows of the program in a store come to.
 use forms::row_in;
 use program::Row;
+use results::result_rows;
 use store::Store;
 ghost use mathlib.Core.Path.{_≡_};
-ghost use Rattle.program.specs.Program.{nameOf, resultName};
+ghost use Rattle.program.specs.Program.{nameOf};
 ghost use Rattle.store.specs.Rows.{storeProgram};
 ghost use Rattle.sets.specs.Sets.{Sized};
 ghost use Rattle.asks.specs.Asks.{Names};
@@ -18,34 +19,17 @@ fn name_of(row: Row) -> u8
     }
 }
 
-// The name of the result reached from row r by rests, as many as there are rows.
-fn result_name(store: &[u8], rows: u8, r: u8) -> u8
-    ensures { λ n. ⌜ n ≡ resultName (storeProgram rows (now (store .entry))) r ⌝ }
-{
-    let mut at = r;
-    let mut left = rows;
-    while 0 < left {
-        match row_in(store, rows, at) {
-            Row::Result(n) => return n,
-            Row::Bind(b) => {
-                at = b.rest;
-                left -= 1;
-            }
-        }
-    }
-    name_of(row_in(store, rows, at))
-}
-
 // The names of the results reached from the rows.
 pub fn result_names(store: &[u8], rows: u8) -> [u8; Store::ROWS]
     requires { ⌜ Sized rows (now store) ⌝ }
     ensures { λ names. ⌜ Names (storeProgram rows (now (store .entry))) names ⌝ }
 {
+    let results = result_rows(store, rows);
     let mut names = [0u8; Store::ROWS];
     let mut t = 0;
     while t < rows {
-        let name = result_name(store, rows, t);
         let i = t as usize;
+        let name = name_of(row_in(store, rows, results[i]));
         names[i] = name;
         t += 1;
     }

@@ -14,7 +14,7 @@ use Rattle.format.specs.Text.{Bytes}
 use Rattle.grids.specs.Grid.{pairByte, Kept, Shows, among, Closes}
 use Rattle.grids.specs.Rounds.{passed, AllPassed}
 use Rattle.grids.proofs.Keeping.{kept-all, kept-then}
-use Rattle.grids.proofs.Adding.{among-in, among-none}
+use Rattle.grids.proofs.Stepping.{among-in, among-none}
 
 -- ---- the rounds below k
 
@@ -22,14 +22,15 @@ pub record ClosesTo (n k : ℕ) (bytes left : Bytes) : Type 0 where
   pub kept : Kept bytes left
   pub closes : (f : ℕ → ℕ → Bool) → Shows (among n f) bytes → Shows (cell (closure k (grid n f))) left
 
-bits-passed : (a b c : Bool) → passed (pick a 1 0) (pick b 1 0) (pick c 1 0) ≡ pick (b || (a && c)) 1 0
+bits-passed : (a b c : Bool) → passed (pick a 1 0) (pick b 1 0) (pick c 1 0) ≡ pick (b || (c && a)) 1 0
 unfolding passed
 bits-passed true true true = refl
 bits-passed true true false = refl
 bits-passed true false true = refl
 bits-passed true false false = refl
 bits-passed false true c = refl
-bits-passed false false c = refl
+bits-passed false false true = refl
+bits-passed false false false = refl
 
 module _ (n : ℕ) where
   -- the rounds show nothing but of the first n rows
@@ -60,15 +61,15 @@ module _ (n : ℕ) where
   closes-none bytes = record { kept = kept-all bytes; closes = λ f h r s lr ls. rw (← (first-round f r s)) (h r s lr ls) }
 
   -- a byte that is of no two of the first n rows stays in a round
-  round-keeps : {k : ℕ} {left next : Bytes} → AllPassed n left k next → (r s : ℕ) → s < rowLimit → (r < n → s < n → ⊥) → pairByte next r s ≡ pairByte left r s
-  round-keeps p r s ls h =
-      elim (decLt r n) [
+  round-keeps : {k : ℕ} {left next : Bytes} → AllPassed n left k next → (r s : ℕ) → r < rowLimit → (r < n → s < n → ⊥) → pairByte next r s ≡ pairByte left r s
+  round-keeps p r s lr h =
+      elim (decLt s n) [
         | yes l ↦
-            elim (decLt s n) [
-              | yes m ↦ absurd (h l m)
-              | no m ↦ p .beside r s l (omega arith) ls
+            elim (decLt r n) [
+              | yes m ↦ absurd (h m l)
+              | no m ↦ p .beside s r l (omega arith) lr
             ]
-        | no l ↦ p .past (r * rowLimit + s) (omega arith)
+        | no l ↦ p .past (s * rowLimit + r) (omega arith)
       ]
 
   pub closes-more : {k : ℕ} {bytes left next : Bytes} → n ≤ rowLimit → k < n → length next ≡ length left → AllPassed n left k next → ClosesTo n k bytes left
@@ -93,13 +94,13 @@ module _ (n : ℕ) where
           let g = closure k (grid n f) in
           let c = h .closes f t in
           rw (cell-through k g r s)
-          (p .in-grid r s l m
-          ∙ rw (c r k (omega arith) (omega arith), c r s (omega arith) (omega arith), c k s (omega arith) (omega arith))
-          (bits-passed (cell g r k) (cell g r s) (cell g k s)))
+          (p .in-grid s r m l
+          ∙ rw (c k s (omega arith) (omega arith), c r s (omega arith) (omega arith), c r k (omega arith) (omega arith))
+          (bits-passed (cell g k s) (cell g r s) (cell g r k)))
 
       beyond : (f : ℕ → ℕ → Bool) → Shows (among n f) bytes → (r s : ℕ) → r < rowLimit → s < rowLimit → (r < n → s < n → ⊥)
           → pairByte next r s ≡ pick (cell (closure (suc k) (grid n f)) r s) 1 0
-      beyond f t r s lr ls ne = round-keeps p r s ls ne ∙ h .closes f t r s lr ls ∙ rw (outside f k r s ne, outside f (suc k) r s ne)
+      beyond f t r s lr ls ne = round-keeps p r s lr ne ∙ h .closes f t r s lr ls ∙ rw (outside f k r s ne, outside f (suc k) r s ne)
 
   pub closes-all : {k : ℕ} {bytes left : Bytes} → k ≡ n → ClosesTo n k bytes left → Closes n bytes left
   unfolding closed

@@ -18,9 +18,6 @@ kept-all grid = record { same-length = refl; past = λ i l. refl }
 pub kept-then : {a b c : Bytes} → Kept a b → Kept b c → Kept a c
 kept-then h k = record { same-length = k .same-length ∙ h .same-length; past = λ i l. k .past i l ∙ h .past i l }
 
-pub kept-set : (grid : Bytes) (i v : ℕ) → i < gridSize → Kept grid (set grid i v)
-kept-set grid i v l = record { same-length = length-set grid i v; past = λ j h. getD-set-other grid i j v 0 (omega arith) }
-
 -- ---- bytes set to 0 from the left
 
 pub record Cleared (grid : Bytes) (i : ℕ) (left : Bytes) : Type 0 where
@@ -45,7 +42,7 @@ pub cleared-all : (i : ℕ) {grid left : Bytes} → gridSize ≤ i → i ≤ gri
 cleared-all i l m e h =
     record {
       kept = record { same-length = e; past = λ j lj. h .past j (omega arith) };
-      shows = λ r s lr ls. h .done (r * rowLimit + s) (omega arith);
+      shows = λ r s lr ls. h .done (s * rowLimit + r) (omega arith);
     }
 
 -- one more element of a list that is filled from the left

@@ -1,5 +1,7 @@
 -- What is kept of a grid, a grid that is cleared, rows of it joined, and the rounds that close it.
 pub mod Keeping
-pub mod Adding
+pub mod Steps
+pub mod Stepping
 pub mod Passes
 pub mod Closing
+pub mod Settled

@@ -1,28 +1,30 @@
 -- A row of the grid copied and joined into another byte by byte, and a round over all rows.
 use Prim.Native.Nat.{ℕ, _+_, _*_, _<_, _≤_, max}
 use native.Mathlib.Omega.{arith}
-use native.Mathlib.Decide.{ℕ-discrete}
-use mathlib.Core.Path.{_≡_, refl, ap, _∙_}
+use native.Mathlib.Decide.{decLt, ℕ-discrete}
+use mathlib.Core.Path.{_≡_, refl, sym, ap, _∙_}
 use lib.ListN.{length, getD, set}
 use lib.Seq.{getD-set-same, getD-set-other}
-use borrow.Author.Tests.{eq-eqb, ne-eqb}
+use lib.Dec.{ltb}
+use borrow.Author.Tests.{eq-eqb, ne-eqb, lt-ltb}
+use Rattle.program.specs.Test.{pick}
 use Rattle.format.specs.Limits.{rowLimit}
 use Rattle.format.specs.Text.{Bytes}
-use Rattle.grids.specs.Grid.{pairByte}
-use Rattle.grids.specs.Rounds.{RowIs, RowJoined, passed, RowPassed, AllPassed}
+use Rattle.grids.specs.Grid.{rowByte}
+use Rattle.grids.specs.Rounds.{RowIs, RowJoined, RowChanged, passed, RowPassed, AllPassed}
 
 -- ---- a row joined into row i, up to column j
 
 pub record Joined (grid : Bytes) (i : ℕ) (way : Bytes) (j : ℕ) (left : Bytes) : Type 0 where
   pub below : (q : ℕ) → q < i * rowLimit → getD left q 0 ≡ getD grid q 0
   pub above : (q : ℕ) → i * rowLimit + j ≤ q → getD left q 0 ≡ getD grid q 0
-  pub row : (c : ℕ) → c < j → pairByte left i c ≡ max (pairByte grid i c) (getD way c 0)
+  pub row : (c : ℕ) → c < j → rowByte left i c ≡ max (rowByte grid i c) (getD way c 0)
 
 pub joined-none : (grid : Bytes) (i : ℕ) (way : Bytes) → Joined grid i way 0 grid
 joined-none grid i way = record { below = λ q l. refl; above = λ q l. refl; row = λ c l. absurd (omega arith) }
 
 pub joined-more : {grid way left : Bytes} {i j : ℕ} → Joined grid i way j left → i * rowLimit + j < length left
-    → Joined grid i way (j + 1) (set left (i * rowLimit + j) (max (pairByte left i j) (getD way j 0)))
+    → Joined grid i way (j + 1) (set left (i * rowLimit + j) (max (rowByte left i j) (getD way j 0)))
 joined-more {way = way} {left} {i} {j} h l =
     let at = i * rowLimit + j in
     record {
@@ -35,6 +37,34 @@ joined-more {way = way} {left} {i} {j} h l =
           ];
     }
 
+-- the same, with what changed so far: 0 only where no byte was altered
+pub record JoinedSo (grid : Bytes) (i : ℕ) (way : Bytes) (j : ℕ) (left : Bytes) (changed : ℕ) : Type 0 where
+  pub joined : Joined grid i way j left
+  pub same : changed ≡ 0 → (q : ℕ) → getD left q 0 ≡ getD grid q 0
+
+pub so-none : (grid : Bytes) (i : ℕ) (way : Bytes) → JoinedSo grid i way 0 grid 0
+so-none grid i way = record { joined = joined-none grid i way; same = λ e q. refl }
+
+pub so-more : {grid way left : Bytes} {i j x : ℕ} (y : ℕ) {z v : ℕ} → JoinedSo grid i way j left x → i * rowLimit + j < length left → y ≡ pick (ltb (rowByte left i j) (getD way j 0)) 1 0 → z ≡ max x y
+    → v ≡ max (rowByte left i j) (getD way j 0) → JoinedSo grid i way (j + 1) (set left (i * rowLimit + j) v) z
+so-more {grid} {way} {left} {i} {j} {x} y {z} {v} h l e m u =
+    let at = i * rowLimit + j in
+    record {
+      joined = rw u (joined-more (h .joined) l);
+      same = λ o q.
+          elim (ℕ-discrete q at) [
+            | yes d ↦ let y0 : y ≡ 0 = omega arith in rw d (getD-set-same left at v 0 l ∙ u ∙ small (rowByte left i j) (getD way j 0) (sym e ∙ y0) ∙ h .same (omega arith) at)
+            | no d ↦ getD-set-other left at q v 0 d ∙ h .same (omega arith) q
+          ];
+    }
+  where
+    small : (a b : ℕ) → _≡_ {A = ℕ} (pick (ltb a b) 1 0) 0 → max a b ≡ a
+    small a b e =
+        elim (decLt a b) [
+          | yes l ↦ let q : _≡_ {A = ℕ} 1 0 = sym (rw (lt-ltb a b l)) ∙ e in absurd (omega arith)
+          | no g ↦ omega arith
+        ]
+
 pub joined-all : (n : ℕ) {grid way left : Bytes} {i j : ℕ} → Joined grid i way j left → j ≡ n → RowJoined n grid i way left
 joined-all n h e =
     record {
@@ -42,26 +72,29 @@ joined-all n h e =
       row = λ c l. h .row c (omega arith);
     }
 
+pub so-all : (n : ℕ) {grid way left : Bytes} {i j m : ℕ} → JoinedSo grid i way j left m → j ≡ n → RowChanged n grid i way left m
+so-all n h e = record { joined = joined-all n (h .joined) e; same = h .same }
+
 -- ---- row i by way of row k, where it reaches that
 
 module _ (n : ℕ) (grid : Bytes) (i k : ℕ) (way : Bytes) where
-  pub row-left : pairByte grid i k ≡ 0 → RowPassed n grid i k way grid
+  pub row-left : rowByte grid i k ≡ 0 → RowPassed n grid i k way grid
   unfolding passed
   row-left e =
       record {
         only = record { below = λ q l. refl; above = λ q l. refl };
-        row = λ j l. rw (eq-eqb (pairByte grid i k) 0 e);
+        row = λ j l. rw (eq-eqb (rowByte grid i k) 0 e);
       }
 
-  pub row-passed : (left : Bytes) → (pairByte grid i k ≡ 0 → ⊥) → RowJoined n grid i way left → RowPassed n grid i k way left
+  pub row-passed : (left : Bytes) → (rowByte grid i k ≡ 0 → ⊥) → RowJoined n grid i way left → RowPassed n grid i k way left
   unfolding passed
-  row-passed left ne h = record { only = h .only; row = λ j l. rw (ne-eqb (pairByte grid i k) 0 ne) (h .row j l) }
+  row-passed left ne h = record { only = h .only; row = λ j l. rw (ne-eqb (rowByte grid i k) 0 ne) (h .row j l) }
 
 -- ---- the rows below i
 
 pub record PassedTo (n : ℕ) (grid : Bytes) (k i : ℕ) (left : Bytes) : Type 0 where
-  pub done : (r j : ℕ) → r < i → j < n → pairByte left r j ≡ passed (pairByte grid r k) (pairByte grid r j) (pairByte grid k j)
-  pub beside : (r j : ℕ) → r < i → n ≤ j → j < rowLimit → pairByte left r j ≡ pairByte grid r j
+  pub done : (r j : ℕ) → r < i → j < n → rowByte left r j ≡ passed (rowByte grid r k) (rowByte grid r j) (rowByte grid k j)
+  pub beside : (r j : ℕ) → r < i → n ≤ j → j < rowLimit → rowByte left r j ≡ rowByte grid r j
   pub past : (q : ℕ) → i * rowLimit ≤ q → getD left q 0 ≡ getD grid q 0
 
 pub passed-none : (n : ℕ) (grid : Bytes) (k : ℕ) → PassedTo n grid k 0 grid

@@ -1,7 +1,8 @@
 -- A grid of bytes, one for each pair of rows: which byte tells of which pair, and what a grid shows of a relation between rows.
 use Prim.Native.Nat.{ℕ, _+_, _*_, _<_, _≤_}
-use mathlib.Core.Bool.{Bool, _&&_}
+use mathlib.Core.Bool.{Bool, _&&_, So}
 use mathlib.Core.Path.{_≡_}
+use mathlib.Core.Logic.{_⊎_}
 use lib.ListN.{length, getD}
 use lib.Dec.{ltb, eqb}
 use Rattle.program.specs.Test.{pick}
@@ -12,9 +13,13 @@ use Rattle.format.specs.Text.{Bytes}
 abbrev pub gridSize : ℕ
 gridSize = rowLimit * rowLimit
 
--- the byte of rows r and s
+-- byte j of row i of the grid
+abbrev pub rowByte : Bytes → ℕ → ℕ → ℕ
+rowByte grid i j = getD grid (i * rowLimit + j) 0
+
+-- the byte of rows r and s: row s of the grid tells of which rows it is reached
 abbrev pub pairByte : Bytes → ℕ → ℕ → ℕ
-pairByte grid r s = getD grid (r * rowLimit + s) 0
+pairByte grid r s = rowByte grid s r
 
 -- `left` is the grid with some bytes replaced: the length and what stands past the grid stay
 pub record Kept (grid left : Bytes) : Type 0 where
@@ -38,10 +43,27 @@ among n f r s = ltb r n && (ltb s n && f r s)
 unfoldable pub step : ℕ → ℕ → ℕ → ℕ → Bool
 step a b r s = eqb r a && eqb s b
 
--- of the first n rows, the bytes of those pairs are set to 1 of which the test holds, and no other byte is altered
-pub record AddsPairs (n : ℕ) (f : ℕ → ℕ → Bool) (grid left : Bytes) : Type 0 where
+-- every byte is 0, or 1 where row s is reached from row r by steps of the first n rows that the test tells
+abbrev pub Within : ℕ → (ℕ → ℕ → Bool) → Bytes → Type 0
+Within n f grid = (r s : ℕ) → r < rowLimit → s < rowLimit → (pairByte grid r s ≡ 0) ⊎ ((pairByte grid r s ≡ 1) × So (closed n f r s))
+
+-- the steps of the first n rows are marked
+abbrev pub Marks : ℕ → (ℕ → ℕ → Bool) → Bytes → Type 0
+Marks n f grid = (a b : ℕ) → a < n → b < n → So (f a b) → 0 < pairByte grid a b
+
+-- who reaches row a reaches row b, where there is a step from a to b
+abbrev pub Onward : ℕ → (ℕ → ℕ → Bool) → Bytes → Type 0
+Onward n f grid = (a b : ℕ) → a < n → b < n → So (f a b) → (r : ℕ) → r < n → 0 < pairByte grid r a → 0 < pairByte grid r b
+
+-- The steps that the test tells, taken one after the other: each is marked, and who was marked to reach its beginning is marked to reach its end. `changed` is 0 only
+-- where no byte was altered.
+pub record Follows (n : ℕ) (f : ℕ → ℕ → Bool) (grid left : Bytes) (changed : ℕ) : Type 0 where
   pub kept : Kept grid left
-  pub adds : (r s : ℕ) → r < rowLimit → s < rowLimit → pairByte left r s ≡ pick (among n f r s) 1 (pairByte grid r s)
+  pub within : (g : ℕ → ℕ → Bool) → ((a b : ℕ) → So (f a b) → So (g a b)) → Within n g grid → Within n g left
+  pub grows : (i : ℕ) → getD grid i 0 ≤ getD left i 0
+  pub marks : Marks n f left
+  pub same : changed ≡ 0 → (i : ℕ) → getD left i 0 ≡ getD grid i 0
+  pub onward : changed ≡ 0 → Onward n f left
 
 -- a grid that shows a relation between the first n rows now shows its closure
 pub record Closes (n : ℕ) (grid left : Bytes) : Type 0 where

@@ -5,11 +5,12 @@ ghost use Prim.Native.Nat.{_≤_};
 ghost use lib.ListN.{length};
 ghost use Rattle.grids.specs.Grid.{gridSize, Fills};
 
-pub mod rounds; // rounds.rt: Warshall's rounds
+pub mod rounds; // rounds.rt: single steps, and Warshall's rounds
 
 pub use rounds::close;
+pub use rounds::take_step;
 
-// The bytes of a grid: that of the pair of rows r and s is r * Store::ROWS + s.
+// The bytes of a grid: that of the pair of rows r and s is s * Store::ROWS + r.
 pub const GRID: usize = Store::ROWS * Store::ROWS;
 
 // Sets every byte of the grid to 0.

@@ -1,12 +1,15 @@
-// Warshall's rounds over a grid: who reaches row k reaches what row k reaches. All of it works on the first n rows.
+// Steps taken in a grid, one by one, and Warshall's rounds over it: what reaches row k reaches what row k reaches. Row i of the grid tells
+// which rows reach row i. All of it works on the first n rows.
 use byte_order::larger;
 use store::Store;
 ghost use mathlib.Core.Path.{_≡_};
 ghost use Prim.Native.Nat.{_<_, _≤_};
 ghost use lib.ListN.{length};
+ghost use lib.Dec.{ltb};
+ghost use Rattle.program.specs.Test.{pick};
 ghost use Rattle.format.specs.Limits.{rowLimit};
-ghost use Rattle.grids.specs.Grid.{gridSize, Closes};
-ghost use Rattle.grids.specs.Rounds.{RowIs, RowJoined, RowPassed, AllPassed};
+ghost use Rattle.grids.specs.Grid.{gridSize, step, Follows, Closes};
+ghost use Rattle.grids.specs.Rounds.{RowIs, RowChanged, RowPassed, AllPassed};
 
 // Row k of the grid. It is read from this copy while the grid is written, so that the loop over a row takes many bytes at a time.
 fn row_of(grid: &[u8], n: usize, k: usize) -> [u8; Store::ROWS]
@@ -23,17 +26,39 @@ fn row_of(grid: &[u8], n: usize, k: usize) -> [u8; Store::ROWS]
     row
 }
 
-// Joins a row into row i of the grid.
-fn join_row(grid: &mut [u8], n: usize, i: usize, way: &[u8])
+// 1 if a byte is below another, which is joined into it, else 0.
+fn grows(own: u8, other: u8) -> u8
+    ensures { λ m. ⌜ m ≡ pick (ltb own other) 1 0 ⌝ }
+{
+    if own < other { 1 } else { 0 }
+}
+
+// Joins a row into row i of the grid; 0 if that alters nothing. Every byte is looked at, so that the loop takes many at a time.
+fn join_row(grid: &mut [u8], n: usize, i: usize, way: &[u8]) -> u8
     requires { ⌜ (n ≤ rowLimit) × (i < n) × (n ≤ length (now way)) × (gridSize ≤ length (now grid)) ⌝ }
-    ensures { λ _. ⌜ RowJoined n (now (grid .entry)) i (now (way .entry)) (now (grid .exit)) ⌝ }
+    ensures { λ m. ⌜ RowChanged n (now (grid .entry)) i (now (way .entry)) (now (grid .exit)) m ⌝ }
 {
     let a = i * Store::ROWS;
+    let mut changed = 0;
     let mut j = 0;
     while j < n {
-        grid[a + j] = larger(grid[a + j], way[j]);
+        let own = grid[a + j];
+        let other = way[j];
+        changed = larger(changed, grows(own, other));
+        grid[a + j] = larger(own, other);
         j += 1;
     }
+    changed
+}
+
+// Takes the step from row a to row b: what reaches row a, and a itself, reaches row b. 0 if that alters nothing.
+pub fn take_step(grid: &mut [u8], n: usize, a: usize, b: usize) -> u8
+    requires { ⌜ (n ≤ rowLimit) × (a < n) × (b < n) × (gridSize ≤ length (now grid)) ⌝ }
+    ensures { λ m. ⌜ Follows n (step a b) (now (grid .entry)) (now (grid .exit)) m ⌝ }
+{
+    let mut way = row_of(grid, n, a);
+    way[a] = 1;
+    join_row(grid, n, b, &way)
 }
 
 // Lets row i, if it reaches row k, reach what is in the row beside the grid.

@@ -1,5 +1,5 @@
 -- What a row gives, by its kind: the steps that are marked are those of the definition.
-use Prim.Native.Nat.{ℕ, _+_}
+use Prim.Native.Nat.{ℕ, _+_, max}
 use native.Mathlib.Omega.{arith}
 use native.Mathlib.Numerals.{add-one}
 use mathlib.Core.Bool.{false, and-false}
@@ -16,9 +16,9 @@ use Rattle.store.proofs.Laws.{program-length}
 use Rattle.tables.specs.Tables.{flowFlag, storeFlow}
 use Rattle.row_kinds.specs.declared.Kind.{Kind}
 use Rattle.row_kinds.specs.declared.Kind.the-variants.{Body, Branch, Call}
-use Rattle.grids.specs.Grid.{AddsPairs}
-use Rattle.grids.proofs.Adding.{adds-as, adds-then}
-use Rattle.row_kinds.specs.Kinds.{kindAt, resultOf, bodyResult}
+use Rattle.grids.specs.Grid.{Follows}
+use Rattle.grids.proofs.Stepping.{follows-as, follows-then}
+use Rattle.row_kinds.specs.Kinds.{kindAt}
 use Rattle.step_marks.specs.Marks.{callSteps, intoBoth, fromBoth}
 use Rattle.reach.specs.Edges.{kindCalled, bodySteps, anyBody, entering, kindSteps, rowSteps}
 
@@ -37,26 +37,26 @@ module _ (s : Bytes) (p : Program) (q rest f k : ℕ) where
   unfolding bodySteps
   body-none e r s′ = rw (e r s′, and-false)
 
-  pub body-in : (flowFlag s f (k + 1) ≡ 0 → ⊥) → {t rest′ : ℕ} → kindAt p k ≡ Body t rest′ → {result : ℕ} → result ≡ bodyResult p k
+  pub body-in : (flowFlag s f (k + 1) ≡ 0 → ⊥) → {t rest′ : ℕ} → kindAt p k ≡ Body t rest′ → {result : ℕ} → result ≡ resultRow p t
       → (r s′ : ℕ) → callSteps q rest t result r s′ ≡ bodySteps p (storeFlow s) q rest f k r s′
-  unfolding bodySteps kindCalled bodyResult resultOf
+  unfolding bodySteps kindCalled
   body-in ne e {result} i r s′ = rw (flag-is, lt-ltb 0 (flowFlag s f (k + 1)) (omega (arith, ne)), i, e)
 
 -- ---- what a row gives, by its kind
 
-pub as-kind : (p : Program) (flow : Table) (q : ℕ) {n : ℕ} {kind : Kind} {a b : Bytes} → kindAt p q ≡ kind
-    → AddsPairs n (kindSteps p flow q kind) a b → AddsPairs n (rowSteps p flow q) a b
+pub as-kind : (p : Program) (flow : Table) (q : ℕ) {n m : ℕ} {kind : Kind} {a b : Bytes} → kindAt p q ≡ kind
+    → Follows n (kindSteps p flow q kind) a b m → Follows n (rowSteps p flow q) a b m
 unfolding rowSteps
-as-kind p flow q e h = adds-as (λ r s. rw e) h
+as-kind p flow q e h = follows-as (λ r s. rw e) h
 
 -- into both branches, and back from both
-pub as-branch : (p : Program) (flow : Table) (q : ℕ) {n k t w rest x y : ℕ} {a b c : Bytes} → kindAt p q ≡ Branch k t w rest → x ≡ resultRow p t → y ≡ resultRow p w
-    → AddsPairs n (intoBoth q t w) a b → AddsPairs n (fromBoth rest x y) b c → AddsPairs n (rowSteps p flow q) a c
+pub as-branch : (p : Program) (flow : Table) (q : ℕ) {n k t w rest x y m : ℕ} (i j : ℕ) {a b c : Bytes} → kindAt p q ≡ Branch k t w rest → x ≡ resultRow p t → y ≡ resultRow p w
+    → m ≡ max i j → Follows n (intoBoth q t w) a b i → Follows n (fromBoth rest x y) b c j → Follows n (rowSteps p flow q) a c m
 unfolding kindSteps entering enters intoBoth
-as-branch p flow q e i j h k = as-kind p flow q e (adds-as (λ r s. rw (i, j)) (adds-then h k))
+as-branch p flow q i j e d u z h k = as-kind p flow q e (follows-as (λ r s. rw (d, u)) (follows-then i j z h k))
 
 -- the calls of a set's rows, in a store
-pub as-call : (n : ℕ) (s : Bytes) (flow : Table) (q : ℕ) {m f rest : ℕ} {a b : Bytes} → kindAt (storeProgram n s) q ≡ Call f rest
-    → AddsPairs m (anyBody (storeProgram n s) flow q rest f n) a b → AddsPairs m (rowSteps (storeProgram n s) flow q) a b
+pub as-call : (n : ℕ) (s : Bytes) (flow : Table) (q : ℕ) {l m f rest : ℕ} {a b : Bytes} → kindAt (storeProgram n s) q ≡ Call f rest
+    → Follows l (anyBody (storeProgram n s) flow q rest f n) a b m → Follows l (rowSteps (storeProgram n s) flow q) a b m
 unfolding kindSteps
-as-call n s flow q e h = as-kind (storeProgram n s) flow q e (adds-as (λ r t. rw program-length) h)
+as-call n s flow q e h = as-kind (storeProgram n s) flow q e (follows-as (λ r t. rw program-length) h)

@@ -1,9 +1,9 @@
 -- The row steps that the rows give are the edges.
-use Prim.Native.Nat.{ℕ}
+use Prim.Native.Nat.{ℕ, _≤_}
 use mathlib.Core.Bool.{Bool, true, false, _&&_, _||_, So, or-false, false≢true}
 use mathlib.Core.Option.{Option, none, some}
 use mathlib.Core.Path.{_≡_, refl, sym, ap, _∙_, fun-ext}
-use mathlib.Core.Logic.{⊎-elim}
+use mathlib.Core.Logic.{inl, ⊎-elim}
 use lib.ListN.{length}
 use lib.Dec.{eqb}
 use borrow.Author.Tests.{eqb-true, eq-eqb}
@@ -21,15 +21,17 @@ use Rattle.program.proofs.Test.{and-left, and-right, and-intro, or-left, or-rig
 use Rattle.program.proofs.Maybe.{has-elim, has-intro, bind-elim}
 use Rattle.program.proofs.Sound.Shape.{bind-bound, row-of}
 use Rattle.program.proofs.Sound.Edges.{form-at, Calls, edge-rest, edge-child, edge-call, edge-return}
+use Rattle.format.specs.Limits.{rowLimit}
 use Rattle.format.specs.Text.{Bytes}
 use Rattle.store.specs.Rows.{storeProgram}
 use Rattle.store.proofs.Laws.{program-length}
-use Rattle.grids.specs.Grid.{among, step, Fills, Closes}
-use Rattle.grids.proofs.Keeping.{kept-then}
+use Rattle.grids.specs.Grid.{step, Fills, Closes, Kept, Within, Marks, Onward, Follows}
+use Rattle.grids.proofs.Keeping.{kept-all, kept-then}
 use Rattle.row_kinds.specs.Kinds.{kindOf, kindOfRow, kindAt}
 use Rattle.step_marks.specs.Marks.{callSteps, fromBoth}
 use Rattle.reach.specs.Edges.{kindCalled, bodySteps, anyBody, entering, kindSteps, rowSteps, anyRow}
-use Rattle.grids.proofs.Adding.{among-as, fills-as}
+use Rattle.grids.proofs.Stepping.{follows-as}
+use Rattle.grids.proofs.Settled.{settled, closed-over}
 
 -- either of two tests, of a number below n, of what is there, and beside a third
 any-or : (n : ℕ) (f g : ℕ → Bool) → any n (λ i. f i || g i) ≡ (any n f || any n g)
@@ -286,15 +288,42 @@ module _ (p : Program) (flow : Table) where
       some h = let (q, l, i) = any-elim (length p) (λ q. rowSteps p flow q r s) h in given q r s i
 
 -- in a store, what all n rows give
-pub fills-edges : (n : ℕ) (s : Bytes) (flow : Table) (q : ℕ) {a b : Bytes} → q ≡ n → Fills (among n (anyRow (storeProgram n s) flow q)) a b
-    → Fills (among n (edge (storeProgram n s) flow)) a b
-fills-edges n s flow q e h =
+pub follows-edges : (n : ℕ) (s : Bytes) (flow : Table) (q : ℕ) {m : ℕ} {a b : Bytes} → q ≡ n → Follows n (anyRow (storeProgram n s) flow q) a b m
+    → Follows n (edge (storeProgram n s) flow) a b m
+follows-edges n s flow q e h =
     let l : q ≡ length (storeProgram n s) = e ∙ sym (program-length n s) in
-    fills-as (λ r t. among-as n (anyRow (storeProgram n s) flow q) (edge (storeProgram n s) flow) r t (rw l (edge-rows (storeProgram n s) flow r t))) h
+    follows-as (λ r t. rw l (edge-rows (storeProgram n s) flow r t)) h
 
--- the grid of the edges, closed
-pub fills-reach : (n : ℕ) (s : Bytes) (flow : Table) {bytes left next : Bytes} → Fills (among n (edge (storeProgram n s) flow)) bytes left → Closes n left next
-    → Fills (reach (storeProgram n s) flow) bytes next
-unfolding reach
-fills-reach n s flow h c =
-    record { kept = kept-then (h .kept) (c .kept); shows = rw program-length (c .closes (edge (storeProgram n s) flow) (h .shows)) }
+-- ---- the grid while the steps are taken again and again
+
+-- it has nothing but what is reached, and every step; nothing else was altered
+pub record Between (n : ℕ) (f : ℕ → ℕ → Bool) (bytes grid : Bytes) : Type 0 where
+  pub kept : Kept bytes grid
+  pub within : Within n f grid
+  pub marks : Marks n f grid
+
+module _ {n : ℕ} {f : ℕ → ℕ → Bool} where
+  pub between-first : {bytes clear grid : Bytes} {m : ℕ} → Fills (λ r s. false) bytes clear → Follows n f clear grid m → Between n f bytes grid
+  between-first h k =
+      record { kept = kept-then (h .kept) (k .kept); within = k .within f (λ a b t. t) (λ r s lr ls. inl (h .shows r s lr ls)); marks = k .marks }
+
+  pub between-next : {bytes grid left : Bytes} {m : ℕ} → Between n f bytes grid → Follows n f grid left m → Between n f bytes left
+  between-next h k = record { kept = kept-then (h .kept) (k .kept); within = k .within f (λ a b t. t) (h .within); marks = k .marks }
+
+  -- from the grid itself, and from an earlier one
+  pub between-here : {bytes grid : Bytes} → Between n f bytes grid → Between n f grid grid
+  between-here {grid = grid} h = record { kept = kept-all grid; within = h .within; marks = h .marks }
+
+  pub between-from : {bytes grid left : Bytes} → Between n f bytes grid → Between n f grid left → Between n f bytes left
+  between-from h k = record { kept = kept-then (h .kept) (k .kept); within = k .within; marks = k .marks }
+
+module _ (n : ℕ) (s : Bytes) (flow : Table) (few : n ≤ rowLimit) {bytes grid : Bytes} (h : Between n (edge (storeProgram n s) flow) bytes grid) where
+  -- nothing changed
+  pub fills-settled : Onward n (edge (storeProgram n s) flow) grid → Fills (reach (storeProgram n s) flow) bytes grid
+  unfolding reach
+  fills-settled onward = record { kept = h .kept; shows = rw program-length (settled n (edge (storeProgram n s) flow) grid few (h .within) (h .marks) onward) }
+
+  -- closed by rounds
+  pub fills-closed : {left : Bytes} → Closes n grid left → Fills (reach (storeProgram n s) flow) bytes left
+  unfolding reach
+  fills-closed c = record { kept = kept-then (h .kept) (c .kept); shows = rw program-length (closed-over n (edge (storeProgram n s) flow) grid few (h .within) (h .marks) c) }

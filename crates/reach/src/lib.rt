@@ -9,8 +9,11 @@ ghost use Rattle.grids.specs.Grid.{gridSize, Fills};
 
 pub mod edges; // edges.rt: the single row steps
 
-pub use edges::fill_edges;
+use edges::take_steps;
 use grids::close;
+
+// How often the steps are taken again before the grid is closed by rounds over all rows: rests rise, so few programs need more.
+const PASSES: u8 = 8;
 
 // Fills the grid, whatever stood in it: the byte of r and s is 1 if row s is reached from row r by one or more row steps,
 // else 0, also where one of the two is no row of the program. The bytes past the grid are kept.
@@ -18,6 +21,16 @@ pub fn fill_reach(store: &[u8], rows: u8, grid: &mut [u8])
     requires { ⌜ (rows ≤ rowLimit) × (gridSize ≤ length (now grid)) ⌝ }
     ensures { λ _. ⌜ Fills (reach (storeProgram rows (now (store .entry))) (storeFlow (now (store .entry)))) (now (grid .entry)) (now (grid .exit)) ⌝ }
 {
-    fill_edges(store, rows, grid);
-    close(grid, rows as usize);
+    let results = results::result_rows(store, rows);
+    grids::clear(grid);
+    let mut changed = take_steps(store, rows, &results, grid);
+    let mut left = PASSES;
+    while 0 < changed {
+        if left == 0 {
+            close(grid, rows as usize);
+            return;
+        }
+        left -= 1;
+        changed = take_steps(store, rows, &results, grid);
+    }
 }

@@ -1,7 +1,7 @@
--- `mark_call` meets its contract: two marks, one after the other.
-use borrow.Author.Needs.{needs}
+-- `mark_call` meets its contract: two steps, one after the other.
 use Rattle.step_marks.specs.Marks.{callSteps}
-use Rattle.grids.proofs.Adding.{adds-then}
+use Rattle.grids.proofs.Stepping.{follows-then}
+use borrow.Author.Needs.{needs}
 use Rattle.step_marks.proofs.mark_call.Statement.{statement}
 use Rattle.step_marks.proofs.mark_call.Tie as tie
 
@@ -11,12 +11,16 @@ mark-requires c κs = search needs
 mark-requires-2 : tie.Need-mark-requires-2
 mark-requires-2 c κs = search needs
 
+larger-requires : tie.Need-larger-requires
+larger-requires c κs = search needs
+
 same-length : tie.Need-same-length
 same-length c = search needs
 
 returns : tie.Need-returns
 unfolding callSteps
-returns c = adds-then (c .before .before .before .before .before .before .mark .ensures) (c .before .before .mark2 .ensures)
+returns c = follows-then _ _ (c .larger .ensures) (c .before .before .before .before .before .before .before .mark .ensures) (c .before .before .before .mark2 .ensures)
 
 pub mark-call-spec : {M : Type 1} → statement M
-mark-call-spec = tie.close (tie.spec mark-requires mark-requires-2 same-length returns)
+mark-call-spec =
+    tie.close (tie.spec mark-requires mark-requires-2 larger-requires same-length returns)

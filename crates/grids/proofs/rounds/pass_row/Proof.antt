@@ -23,7 +23,7 @@ same-length : tie.Need-same-length
 same-length c = search needs
 
 returns-2 : tie.Need-returns-2
-returns-2 c = row-passed _ _ _ _ _ _ (c .before .before .before .before .if1 .left) (c .before .before .join-row .ensures)
+returns-2 c = row-passed _ _ _ _ _ _ (c .before .before .before .before .if1 .left) (c .before .before .join-row .ensures .joined)
 
 pub pass-row-spec : {M : Type 1} → statement M
 pass-row-spec =

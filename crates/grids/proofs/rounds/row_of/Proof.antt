@@ -6,14 +6,14 @@ use denote.Ref.{now}
 use lib.ListN.{length, getD, length-set}
 use borrow.Author.Needs.{needs}
 use Rattle.format.specs.Limits.{rowLimit}
-use Rattle.grids.specs.Grid.{pairByte}
+use Rattle.grids.specs.Grid.{rowByte}
 use Rattle.grids.proofs.Keeping.{filled-more}
 use Rattle.grids.proofs.rounds.row_of.Statement.{statement}
 use Rattle.grids.proofs.rounds.row_of.Tie as tie
 
 abbrev Inv-loop : tie.InvT-loop
 Inv-loop grid n k b row₀ j₀ row j =
-    (j ≤ n) × ((length row ≡ rowLimit) × ((c : ℕ) → c < j → getD row c 0 ≡ pairByte grid k c))
+    (j ≤ n) × ((length row ≡ rowLimit) × ((c : ℕ) → c < j → getD row c 0 ≡ rowByte grid k c))
 
 abbrev μ-loop : tie.MeasureT-loop
 μ-loop grid n k b row₀ j₀ row j = n - j
@@ -43,7 +43,7 @@ loop-again : tie.Need-loop-again Inv-loop μ-loop
 loop-again c =
     let args = c .before .before .before .args in
     let here = c .before .before .loop in
-    (omega arith, (simp length-set (here .inv .1 .0), filled-more (pairByte (now (args .grid)) (args .k)) (here .j) (here .row) (omega arith) (here .inv .1 .1)))
+    (omega arith, (simp length-set (here .inv .1 .0), filled-more (rowByte (now (args .grid)) (args .k)) (here .j) (here .row) (omega arith) (here .inv .1 .1)))
 
 returns : tie.Need-returns Inv-loop μ-loop
 returns c = record { bytes = λ j l. c .before .loop .inv .1 .1 j (omega arith) }

@@ -1,31 +1,34 @@
--- The loop's invariant: what is marked are the calls of the rows below k. The measure is what is left of the rows.
+-- The loop's invariant: the steps of the calls of the rows below k are taken. The measure is what is left of the rows.
 use Prim.Native.Nat.{_≤_, _-_}
 use native.Mathlib.Omega.{arith}
 use mathlib.Core.Path.{_≡_, refl, _∙_}
 use lib.ListN.{length}
-use borrow.Author.Needs.{needs}
 use Rattle.program.specs.Test.{any}
 use Rattle.store.specs.Rows.{storeProgram}
 use Rattle.tables.specs.Tables.{storeFlow}
 use Rattle.reach.specs.Edges.{bodySteps, anyBody}
-use Rattle.grids.specs.Grid.{AddsPairs}
-use Rattle.grids.proofs.Adding.{adds-none, adds-next}
+use Rattle.grids.specs.Grid.{Follows}
+use Rattle.grids.proofs.Stepping.{follows-none, follows-next}
+use borrow.Author.Needs.{needs}
 use Rattle.reach.proofs.edges.mark_bodies.Statement.{statement}
 use Rattle.reach.proofs.edges.mark_bodies.Tie as tie
 
 abbrev Inv-loop : tie.InvT-loop
-Inv-loop store rows results grid₀ q rest f k₀ grid k =
-    (k ≤ rows) × ((length grid ≡ length grid₀) × AddsPairs rows (anyBody (storeProgram rows store) (storeFlow store) q rest f k) grid₀ grid)
+Inv-loop store rows results grid₀ q rest f changed₀ k₀ grid changed k =
+    (k ≤ rows) × ((length grid ≡ length grid₀) × Follows rows (anyBody (storeProgram rows store) (storeFlow store) q rest f k) grid₀ grid changed)
 
 abbrev μ-loop : tie.MeasureT-loop
-μ-loop store rows results grid₀ q rest f k₀ grid k = rows - k
+μ-loop store rows results grid₀ q rest f changed₀ k₀ grid changed k = rows - k
 
 loop-holds : tie.Need-loop-holds Inv-loop μ-loop
 unfolding anyBody any
-loop-holds c = (omega arith, (refl, adds-none _ (λ r s lr ls. refl)))
+loop-holds c = (omega arith, (refl, follows-none _ (λ r s lr ls. refl)))
 
 mark-body-requires : tie.Need-mark-body-requires Inv-loop μ-loop
 mark-body-requires c κs = ((c .before .before .before .before .before .before .pre .0 .0, omega arith, c .before .loop-test .taken), c .before .before .before .before .before .before .pre .1)
+
+larger-requires : tie.Need-larger-requires Inv-loop μ-loop
+larger-requires c κs = search needs
 
 add-k : tie.Need-add-k Inv-loop μ-loop
 add-k c = search needs
@@ -35,10 +38,7 @@ loop-less c = search needs
 
 loop-again : tie.Need-loop-again Inv-loop μ-loop
 unfolding anyBody
-loop-again c =
-    let h = c .before .before .before .before .before .loop .inv .1 in
-    let m = c .before .before .mark-body .ensures in
-    (omega arith, (m .kept .same-length ∙ h .0, adds-next (λ k r s. bodySteps _ _ _ _ _ k r s) _ (h .1) m))
+loop-again c = (omega arith, (c .before .before .before .mark-body .ensures .kept .same-length ∙ c .before .before .before .before .before .before .loop .inv .1 .0, follows-next (λ k r s. bodySteps _ _ _ _ _ k r s) _ _ _ (c .larger .ensures) (c .before .before .before .before .before .before .loop .inv .1 .1) (c .before .before .before .mark-body .ensures)))
 
 same-length : tie.Need-same-length Inv-loop μ-loop
 same-length c = c .before .loop .inv .1 .0
@@ -54,6 +54,7 @@ mark-bodies-spec =
     μ-loop
     loop-holds
     mark-body-requires
+    larger-requires
     add-k
     loop-less
     loop-again

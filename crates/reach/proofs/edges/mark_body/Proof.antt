@@ -7,14 +7,15 @@ use mathlib.Core.Path.{_≡_, refl, sym, _∙_}
 use mathlib.Core.Bool.{false}
 use denote.Enum.Declared.{tagOf}
 use types.Run.{OneOf}
-use borrow.Author.Needs.{needs}
 use Rattle.program.specs.Program.{Program}
+use Rattle.store.proofs.Laws.{program-length}
 use Rattle.reach.specs.Edges.{kindCalled}
 use Rattle.row_kinds.specs.declared.Kind.the-variants.{End, Next, Body, Fork, Branch, Call}
 use Rattle.row_kinds.specs.declared.Kind.{Kind}
 use Rattle.row_kinds.proofs.Kind.{the-type}
-use Rattle.grids.proofs.Adding.{adds-none, adds-as}
+use Rattle.grids.proofs.Stepping.{follows-none, follows-as}
 use Rattle.reach.proofs.Giving.{body-out, body-none, body-in}
+use borrow.Author.Needs.{needs}
 use Rattle.reach.proofs.edges.mark_body.Statement.{statement}
 use Rattle.reach.proofs.edges.mark_body.Tie as tie
 
@@ -42,7 +43,7 @@ flow-flag-requires : tie.Need-flow-flag-requires
 flow-flag-requires c κs = search needs
 
 returns : tie.Need-returns
-returns c = adds-none _ (λ r s lr ls. body-out _ _ _ _ _ _ (sym (c .before .flow-flag .ensures) ∙ c .if1 .taken) r s)
+returns c = follows-none _ (λ r s lr ls. body-out _ _ _ _ _ _ (sym (c .before .flow-flag .ensures) ∙ c .if1 .taken) r s)
 
 kind-at-requires : tie.Need-kind-at-requires
 kind-at-requires c κs = search needs
@@ -51,10 +52,10 @@ enum-known-body : tie.Need-enum-known-body
 enum-known-body c = search needs
 
 returns-2 : tie.Need-returns-2
-returns-2 c = adds-none _ (λ r s lr ls. body-none _ _ _ _ _ _ (λ r s. rw (← (c .before .kind-at .ensures)) (no-body _ _ _ _ (not-two _ (c .match .keys2)) r s)) r s)
+returns-2 c = follows-none _ (λ r s lr ls. body-none _ _ _ _ _ _ (λ r s. rw (← (c .before .kind-at .ensures)) (no-body _ _ _ _ (not-two _ (c .match .keys2)) r s)) r s)
 
-byte-at-requires : tie.Need-byte-at-requires
-byte-at-requires c κs = search needs
+result-of-requires : tie.Need-result-of-requires
+result-of-requires c κs = search needs
 
 mark-call-requires : tie.Need-mark-call-requires
 mark-call-requires c κs = search needs
@@ -63,12 +64,8 @@ same-length : tie.Need-same-length
 same-length c = search needs
 
 returns-3 : tie.Need-returns-3
-returns-3 c =
-    let found = c .before .before .before .before .before .before in
-    let member = found .before .before .before in
-    let entry = member .before .before .before .before .before in
-    adds-as (body-in _ _ _ _ _ _ (λ e. member .if1 .left (member .before .flow-flag .ensures ∙ e)) (sym (found .before .before .kind-at .ensures) ∙ found .body .given .1)
-    (c .before .before .before .before .byte-at .ensures ∙ entry .pre .1 .at _ (entry .pre .0 .2)))
+returns-3 c = follows-as (body-in _ _ _ _ _ _ (λ e. c .before .before .before .before .before .before .before .before .before .if1 .left (c .before .before .before .before .before .before .before .before .before .before .flow-flag .ensures ∙ e)) (sym (c .before .before .before .before .before .before .before .before .kind-at .ensures) ∙ c .before .before .before .before .before .before .body .given .1)
+    (c .before .before .before .before .result-of .ensures _ (program-length _ _) (c .before .before .before .before .before .before .before .before .before .before .before .before .before .before .pre .1)))
     (c .before .before .mark-call .ensures)
 
 pub mark-body-spec : {M : Type 1} → statement M
@@ -81,7 +78,7 @@ mark-body-spec =
     kind-at-requires
     enum-known-body
     returns-2
-    byte-at-requires
+    result-of-requires
     mark-call-requires
     same-length
     returns-3)

@@ -1,0 +1,2 @@
+-- The result rows of a program's rows.
+pub mod Results
