@@ -16,7 +16,7 @@ use Rattle.row_marks.specs.RowMarks.{on, marked, Marked, meets, threeMee
 
 -- ---- the larger and the smaller of two bytes
 
-over-max : (x y : ℕ) → ltb 0 (max x y) ≡ (ltb 0 y || ltb 0 x)
+pub over-max : (x y : ℕ) → ltb 0 (max x y) ≡ (ltb 0 y || ltb 0 x)
 over-max x y =
     elim (decLt 0 y) [
       | yes l ↦ rw (lt-ltb 0 y l, lt-ltb 0 (max x y) (omega arith))

@@ -2,7 +2,7 @@
 use Prim.Native.Nat.{ℕ, _+_, _*_, _<_, _≤_}
 use native.Mathlib.Omega.{arith}
 use native.Mathlib.Decide.{decLt}
-use mathlib.Core.Bool.{Bool, true, false, _&&_, _||_}
+use mathlib.Core.Bool.{Bool, true, false, _&&_, _||_, and-comm}
 use mathlib.Core.Option.{Option, none, some}
 use mathlib.Core.Path.{_≡_, refl, sym, ap, ap₂, _∙_}
 use lib.ListN.{length}
@@ -20,7 +20,7 @@ use Rattle.store.specs.Rows.{storeProgram}
 use Rattle.store.proofs.Laws.{program-length}
 use Rattle.tables.specs.Tables.{storeFlow}
 use Rattle.grids.specs.Grid.{Shows}
-use Rattle.row_marks.specs.RowMarks.{on, marked, Marked, meets, threeMeet}
+use Rattle.row_marks.specs.RowMarks.{on, marked, Marked, threeMeet}
 use Rattle.row_marks.proofs.Marking.{marked-in, marked-past}
 use Rattle.place_marks.proofs.Placing.{any-none}
 use Rattle.walks.specs.Walks.{aheadOf, leadsOn, forksOn, rivalsOn}
@@ -45,7 +45,7 @@ module _ (n : ℕ) (s : Bytes) (few : n ≤ rowLimit) (grid comes places : Bytes
     abbrev at : ℕ → Bool
     at = marked n places
 
-    pub pair-on : (r k : ℕ) → r < n → k < n → on grid (r * rowLimit + k) ≡ reaches r k
+    pub pair-on : (r k : ℕ) → r < n → k < n → on grid (k * rowLimit + r) ≡ reaches r k
     unfolding on
     pair-on r k l m = rw (shows r k (omega arith) (omega arith)) (on-pick _)
 
@@ -55,10 +55,10 @@ module _ (n : ℕ) (s : Bytes) (few : n ≤ rowLimit) (grid comes places : Bytes
     reach-past r k l = closed-past (length p) _ r k (rw (program-length n s) l)
 
     ahead-is : (r : ℕ) → r < n → on ahead r ≡ any (length p) (λ k. reaches r k && at k)
-    unfolding aheadOf meets
+    unfolding aheadOf
     ahead-is r l =
         leading .rows r l
-        ∙ rw (program-length n s) (any-same n _ _ λ k m. ap₂ _&&_ (pair-on r k l m) (marked-in n places k m))
+        ∙ rw (program-length n s) (any-same n _ _ λ k m. ap₂ _&&_ (marked-in n places k m) (pair-on r k l m) ∙ and-comm (at k) (reaches r k))
 
     twice-is : threeMeet n comes places ahead ≡ inARow p reaches (marked n comes) at
     unfolding threeMeet inARow

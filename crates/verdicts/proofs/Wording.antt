@@ -1,7 +1,7 @@
 -- What is found at the two ends of a channel, from the marks of its places and of the rows that walks come to, and the words that follow.
 use Prim.Native.Nat.{ℕ, _<_, _≤_}
 use native.Mathlib.Omega.{arith}
-use native.Mathlib.Nat.{zero-add}
+use native.Mathlib.Nat.{add-zero}
 use mathlib.Core.Bool.{Bool, false, _||_}
 use mathlib.Core.List.{[], _∷_, map}
 use mathlib.Core.Option.{none}
@@ -64,7 +64,7 @@ module _ (n : ℕ) (s : Bytes) where
   unfolding comesTo reached on
   comes-is grid {marks} few shows m r l =
       sym (marked-in n marks r l) ∙ m .rows r l
-      ∙ ap (λ (b : Bool). eqb r 0 || b) (rw (rw zero-add at (shows 0 r (omega arith) (omega arith))) (on-pick _))
+      ∙ ap (λ (b : Bool). eqb r 0 || b) (rw (rw add-zero at (shows 0 r (omega arith) (omega arith))) (on-pick _))
 
   pub channel-facts : (c : ℕ) (grid : Bytes) {comes sends receives : Bytes} {f : Facts} → n ≤ rowLimit → Shows reaches grid → Marked n (comesTo grid) comes
       → Marked n (place p (storeFlow s) Sends c) sends → Marked n (place p (storeFlow s) Receives c) receives

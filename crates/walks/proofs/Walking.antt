@@ -1,18 +1,22 @@
 -- What walks come to, as a loop over the rows finds it.
-use Prim.Native.Nat.{ℕ, _+_, _<_}
+use Prim.Native.Nat.{ℕ, _+_, _*_, _≤_, _<_, max}
 use native.Mathlib.Omega.{arith}
 use native.Mathlib.Numerals.{add-one}
 use native.Mathlib.Decide.{ℕ-discrete as decEq}
-use mathlib.Core.Bool.{Bool, true, false, _&&_}
-use mathlib.Core.Path.{_≡_, sym}
-use lib.ListN.{set, length-set}
+use mathlib.Core.Bool.{Bool, true, false, _&&_, _||_}
+use mathlib.Core.Path.{_≡_, refl, sym, ap, _∙_}
+use lib.ListN.{length, getD, set, replicate, length-set, length-replicate}
 use lib.Seq.{getD-set-same, getD-set-other}
+use lib.Dec.{ltb}
 use borrow.Author.Tests.{lt-ltb, ne-eqb}
 use Rattle.program.specs.Test.{any}
 use Rattle.program.proofs.Test.{any-intro}
+use Rattle.format.specs.Limits.{rowLimit}
 use Rattle.format.specs.Text.{Bytes, byteAt}
+use Rattle.store.proofs.Laws.{zeros-at}
 use Rattle.row_marks.specs.RowMarks.{on, Marked}
-use Rattle.walks.specs.Walks.{comesTo}
+use Rattle.row_marks.proofs.Marking.{over-max}
+use Rattle.walks.specs.Walks.{comesTo, JoinsMarks}
 
 module _ (f : ℕ → Bool) where
   pub none-more : (q : ℕ) → any q f ≡ false → f q ≡ false → any (q + 1) f ≡ false
@@ -32,7 +36,7 @@ module _ (marks : Bytes) (q : ℕ) {x : ℕ} (e : x ≡ byteAt marks q) where
   is-on b z = rw (← e, lt-ltb 0 x (omega arith))
 
 -- row 0 too
-pub marked-first : {n : ℕ} (grid : Bytes) {s : Bytes} → Marked n (on grid) s → Marked n (comesTo grid) (set s 0 1)
+pub marked-first : {n : ℕ} (grid : Bytes) {s : Bytes} → Marked n (λ r. on grid (r * rowLimit)) s → Marked n (comesTo grid) (set s 0 1)
 unfolding on comesTo
 marked-first grid {s} m =
     record {
@@ -42,3 +46,55 @@ marked-first grid {s} m =
         | no d ↦ rw (getD-set-other s 0 r 1 0 d, ne-eqb r 0 d) (m .rows r h)
       ];
     }
+
+-- ---- rows of a grid joined into marks
+
+-- up to row j
+pub record JoinsTo (grid : Bytes) (at : ℕ) (marks : Bytes) (j : ℕ) (left : Bytes) : Type 0 where
+  pub same-length : length left ≡ length marks
+  pub done : (c : ℕ) → c < j → getD left c 0 ≡ max (getD marks c 0) (getD grid (at + c) 0)
+  pub past : (c : ℕ) → j ≤ c → getD left c 0 ≡ getD marks c 0
+
+pub joins-none : (grid : Bytes) (at : ℕ) (marks : Bytes) → JoinsTo grid at marks 0 marks
+joins-none grid at marks = record { same-length = refl; done = λ c l. absurd (omega arith); past = λ c l. refl }
+
+pub joins-more : {grid marks left : Bytes} {at j v : ℕ} → JoinsTo grid at marks j left → j < length left → v ≡ max (getD left j 0) (getD grid (at + j) 0)
+    → JoinsTo grid at marks (j + 1) (set left j v)
+joins-more {grid} {marks} {left} {at} {j} {v} h l e =
+    record {
+      same-length = simp length-set (h .same-length);
+      done = λ c lc. elim (decEq c j) [
+        | yes q ↦ rw q (getD-set-same left j v 0 l ∙ e ∙ ap (λ (x : ℕ). max x (getD grid (at + j) 0)) (h .past j (omega arith)))
+        | no d ↦ getD-set-other left j c v 0 d ∙ h .done c (omega arith)
+      ];
+      past = λ c lc. getD-set-other left j c v 0 (omega arith) ∙ h .past c (omega arith);
+    }
+
+pub joins-all : (n : ℕ) {grid marks left : Bytes} {at j : ℕ} → JoinsTo grid at marks j left → n ≤ j → JoinsMarks n grid at marks left
+joins-all n h l = record { same-length = h .same-length; joined = λ j m. h .done j (omega arith) }
+
+-- the rows ahead of the first i rows' places
+abbrev pub aheadBelow : Bytes → Bytes → ℕ → ℕ → Bool
+aheadBelow grid places i r = any i λ k. on places k && on grid (k * rowLimit + r)
+
+module _ {n : ℕ} (grid places : Bytes) (i : ℕ) {marks : Bytes} where
+  -- row i is no place
+  pub ahead-skip : getD places i 0 ≡ 0 → Marked n (aheadBelow grid places i) marks → Marked n (aheadBelow grid places (i + 1)) marks
+  unfolding any on
+  ahead-skip z m = record { size = m .size; rows = λ r l. m .rows r l ∙ rw (add-one i, z) }
+
+  -- it is one
+  pub ahead-join : {left : Bytes} → (getD places i 0 ≡ 0 → ⊥) → JoinsMarks n grid (i * rowLimit) marks left → Marked n (aheadBelow grid places i) marks
+      → Marked n (aheadBelow grid places (i + 1)) left
+  unfolding any on
+  ahead-join {left} z j m =
+      record {
+        size = rw (j .same-length) (m .size);
+        rows = λ r l.
+            rw (add-one i, lt-ltb 0 (getD places i 0) (omega (arith, z)), j .joined r l, over-max (getD marks r 0) (getD grid (i * rowLimit + r) 0))
+            (ap (λ b. ltb 0 (getD grid (i * rowLimit + r) 0) || b) (m .rows r l));
+      }
+
+pub ahead-none : {n : ℕ} (grid places : Bytes) → n ≤ rowLimit → Marked n (aheadBelow grid places 0) (replicate rowLimit 0)
+unfolding any on
+ahead-none grid places l = record { size = omega (arith, length-replicate {A = ℕ} rowLimit 0); rows = λ r m. rw (zeros-at rowLimit r) }

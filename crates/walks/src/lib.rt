@@ -1,19 +1,17 @@
 // What walks come to, told by a grid of which rows reach which.
+use byte_order::larger;
 use forms::row_in;
 use program::Form;
 use program::Row;
-use row_marks::meets;
-use row_marks::three_meet;
 use store::Store;
 ghost use mathlib.Core.Path.{_≡_};
-ghost use Prim.Native.Nat.{_*_, _≤_};
+ghost use Prim.Native.Nat.{_+_, _≤_};
 ghost use lib.ListN.{length};
-ghost use Rattle.program.specs.Test.{any};
 ghost use Rattle.format.specs.Limits.{rowLimit};
 ghost use Rattle.store.specs.Rows.{storeProgram};
 ghost use Rattle.grids.specs.Grid.{gridSize};
-ghost use Rattle.row_marks.specs.RowMarks.{Marked, threeMeet};
-ghost use Rattle.walks.specs.Walks.{comesTo, aheadOf, leadsOn, forksOn, rivalsOn};
+ghost use Rattle.row_marks.specs.RowMarks.{Marked};
+ghost use Rattle.walks.specs.Walks.{comesTo, JoinsMarks, aheadOf, leadsOn, forksOn, rivalsOn};
 
 // The rows that a walk comes to: row 0, and what it reaches.
 pub fn reached_rows(grid: &[u8], rows: u8) -> [u8; Store::ROWS]
@@ -23,14 +21,28 @@ pub fn reached_rows(grid: &[u8], rows: u8) -> [u8; Store::ROWS]
     let mut marks = [0u8; Store::ROWS];
     let mut r = 0;
     while r < rows as usize {
-        marks[r] = grid[r];
+        marks[r] = grid[r * Store::ROWS];
         r += 1;
     }
     marks[0] = 1;
     marks
 }
 
-// The rows from which one of the places is reached by one or more row steps.
+// Joins the row of a grid that begins at a position into marks.
+fn join_marks(marks: &mut [u8], grid: &[u8], at: usize, n: usize)
+    requires { ⌜ (n ≤ length (now marks)) × (at + n ≤ length (now grid)) ⌝ }
+    ensures { λ _. ⌜ JoinsMarks n (now (grid .entry)) at (now (marks .entry)) (now (marks .exit)) ⌝ }
+{
+    let mut j = 0;
+    while j < n {
+        let own = marks[j];
+        let other = grid[at + j];
+        marks[j] = larger(own, other);
+        j += 1;
+    }
+}
+
+// The rows from which one of the places is reached by one or more row steps: for each place the row of the grid that tells them.
 pub fn rows_ahead(grid: &[u8], rows: u8, places: &[u8]) -> [u8; Store::ROWS]
     requires { ⌜ (rows ≤ rowLimit) × (gridSize ≤ length (now grid)) × (rowLimit ≤ length (now places)) ⌝ }
     ensures { λ marks. ⌜ Marked rows (aheadOf rows (now (grid .entry)) (now (places .entry))) marks ⌝ }
@@ -39,9 +51,12 @@ pub fn rows_ahead(grid: &[u8], rows: u8, places: &[u8]) -> [u8; Store::ROWS]
     let mut marks = [0u8; Store::ROWS];
     let mut r = 0;
     while r < n {
+        if places[r] == 0 {
+            r += 1;
+            continue;
+        }
         let at = r * Store::ROWS;
-        let mark = meets(grid, at, places, n) as u8;
-        marks[r] = mark;
+        join_marks(&mut marks, grid, at, n);
         r += 1;
     }
     marks

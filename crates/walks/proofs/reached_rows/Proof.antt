@@ -1,7 +1,8 @@
 -- `reached_rows` meets its contract. The loop's invariant: the marks are, of the first r rows, those that row 0 reaches. The measure is the number of rows left.
-use Prim.Native.Nat.{_≤_, _-_}
+use Prim.Native.Nat.{_≤_, _-_, _*_}
 use native.Mathlib.Omega.{arith}
 use mathlib.Core.Path.{_≡_, refl}
+use Rattle.format.specs.Limits.{rowLimit}
 use Rattle.row_marks.specs.RowMarks.{on, Marked}
 use Rattle.row_marks.proofs.Marking.{marked-none, marked-more}
 use Rattle.walks.proofs.Walking.{marked-first}
@@ -11,7 +12,7 @@ use Rattle.walks.proofs.reached_rows.Tie as tie
 
 abbrev Inv-loop : tie.InvT-loop
 Inv-loop grid rows marks₀ r₀ marks r =
-    (r ≤ rows) × Marked r (on grid) marks
+    (r ≤ rows) × Marked r (λ r. on grid (r * rowLimit)) marks
 
 abbrev μ-loop : tie.MeasureT-loop
 μ-loop grid rows marks₀ r₀ marks r = rows - r
@@ -19,8 +20,11 @@ abbrev μ-loop : tie.MeasureT-loop
 loop-holds : tie.Need-loop-holds Inv-loop μ-loop
 loop-holds c = (omega arith, marked-none _)
 
+mul-marks : tie.Need-mul-marks Inv-loop μ-loop
+mul-marks c = search needs
+
 shared-slice-read-marks : tie.Need-shared-slice-read-marks Inv-loop μ-loop
-shared-slice-read-marks c = search needs
+shared-slice-read-marks c = omega arith
 
 array-write-marks : tie.Need-array-write-marks Inv-loop μ-loop
 array-write-marks c = search needs
@@ -48,6 +52,7 @@ reached-rows-spec =
     Inv-loop
     μ-loop
     loop-holds
+    mul-marks
     shared-slice-read-marks
     array-write-marks
     add-r

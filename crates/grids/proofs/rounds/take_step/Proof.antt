@@ -19,7 +19,7 @@ slice-aggregate-join-row : tie.Need-slice-aggregate-join-row
 slice-aggregate-join-row c = search needs
 
 join-row-requires : tie.Need-join-row-requires
-join-row-requires c κs = let size : length (c .before .before .row-of .result) ≡ rowLimit = search needs in (c .before .before .before .before .before .pre .0, c .before .before .before .before .before .pre .2, simp length-set (omega (arith, size)), c .before .before .before .before .before .pre .3)
+join-row-requires c κs = let size : length (c .before .before .row-of .result) ≡ rowLimit = search needs in (c .before .before .before .before .before .pre .0, omega arith, simp length-set (omega (arith, size)), c .before .before .before .before .before .pre .3)
 
 same-length : tie.Need-same-length
 same-length c = search needs
