@@ -12,7 +12,7 @@ use borrow.Author.Tests.{lt-ltb, le-ltb}
 use Rattle.program.specs.Test.{any}
 use Rattle.format.specs.Limits.{rowLimit}
 use Rattle.format.specs.Text.{Bytes, byteAt}
-use Rattle.row_marks.specs.RowMarks.{on, marked, Marked, meets, threeMeet}
+use Rattle.row_marks.specs.RowMarks.{on, marked, Marked, meets, threeMeet, NoneMarked}
 
 -- ---- the larger and the smaller of two bytes
 
@@ -92,3 +92,20 @@ marked-is n {f} {marks} m past =
       | yes l ↦ sym (marked-in n marks r l) ∙ m .rows r l
       | no l ↦ marked-past n marks r (omega arith) ∙ sym (past r (omega arith))
     ]
+
+-- ---- no row is marked
+
+pub unmarked-none : (marks : Bytes) (r : ℕ) → r < 0 → byteAt marks r ≡ 0
+unmarked-none marks r l = absurd (omega arith)
+
+pub unmarked-more : (marks : Bytes) (i found : ℕ) {next : ℕ} → (found ≡ 0 → (r : ℕ) → r < i → byteAt marks r ≡ 0) → next ≡ max found (byteAt marks i)
+    → next ≡ 0 → (r : ℕ) → r < i + 1 → byteAt marks r ≡ 0
+unmarked-more marks i found h e z r l =
+    elim (decEq r i) [
+      | yes q ↦ rw q (omega arith)
+      | no d ↦ h (omega arith) r (omega arith)
+    ]
+
+pub unmarked-all : (marks : Bytes) → ((r : ℕ) → r < rowLimit → byteAt marks r ≡ 0) → NoneMarked marks
+unfolding NoneMarked on
+unmarked-all marks h r l = rw (h r l)

@@ -1,6 +1,6 @@
 -- Sets of rows as bytes: a row is in the set if its byte is not 0.
 use Prim.Native.Nat.{ℕ, _+_, _≤_, _<_}
-use mathlib.Core.Bool.{Bool, _&&_}
+use mathlib.Core.Bool.{Bool, false, _&&_}
 use mathlib.Core.Path.{_≡_}
 use lib.ListN.{length}
 use lib.Dec.{ltb}
@@ -27,3 +27,7 @@ meets n bytes at marks = any n λ i. on bytes (at + i) && on marks i
 -- one of the first n rows is in all three sets
 unfoldable pub threeMeet : ℕ → Bytes → Bytes → Bytes → Bool
 threeMeet n a b c = any n λ i. on a i && (on b i && on c i)
+
+-- no row is marked
+unfoldable pub NoneMarked : Bytes → Type 0
+NoneMarked marks = (r : ℕ) → r < rowLimit → on marks r ≡ false

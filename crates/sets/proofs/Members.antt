@@ -3,7 +3,7 @@ use Prim.Native.Nat.{ℕ, zero, suc, _+_, _*_, _≤_, _<_, max}
 use native.Mathlib.Omega.{arith}
 use native.Mathlib.Decide.{decLt, ℕ-discrete as decEq}
 use native.Mathlib.Numerals.{add-one}
-use mathlib.Core.Bool.{Bool, true, false, _&&_}
+use mathlib.Core.Bool.{Bool, true, false, _&&_, So}
 use mathlib.Core.List.{[]}
 use mathlib.Core.Path.{_≡_, _∙_, fun-ext}
 use lib.ListN.{length, getD, take, drop, replicate, length-take, length-drop, set, length-set, length-replicate, List·getD-eq-default}
@@ -20,7 +20,7 @@ use Rattle.store.specs.Rows.{storeProgram}
 use Rattle.store.proofs.Laws.{program-length}
 use Rattle.tables.specs.Tables.{flagAt, flowFlag, commFlag, storeFlow, storeComm}
 use Rattle.sets.specs.Sets.{setOf, partAt, within, unlessIn, liesBelow, PassingSet}
-use Rattle.program.proofs.Test.{all-same}
+use Rattle.program.proofs.Test.{all-same, all-elim, all-intro}
 use Rattle.sets.proofs.Tests.{implies-true, all-true, all-shift}
 
 -- ---- the bytes of two sets
@@ -53,6 +53,11 @@ within-lies n a b k l = rw (add-one, set-full a k, set-full b l) (all-shift n _)
 pub lies-short : (n : ℕ) (a : Bytes) (t : Set) → length a < memberLimit → liesBelow n (setOf a) t ≡ true
 unfolding liesBelow
 lies-short n a t h = rw (set-short a h) (all-true n)
+
+-- of more members, and so of fewer
+pub within-fewer : (n m : ℕ) (a b : Bytes) → n ≤ m → So (within m a b) → So (within n a b)
+unfolding within
+within-fewer n m a b l h = all-intro n _ λ i k. all-elim m _ h i (omega arith)
 
 -- a set within one of no bytes
 pub within-short : (n : ℕ) (a b none : Bytes) → memberLimit ≤ length a → length b < memberLimit → ((i : ℕ) → byteAt none i ≡ 0) → within (n + 1) a none ≡ liesBelow n (setOf a) (setOf b)

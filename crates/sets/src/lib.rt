@@ -46,6 +46,10 @@ pub fn lies_in(a: &[u8], b: &[u8], rows: u8) -> bool
         let none = [0u8; Store::MEMBERS];
         return within(a, &none, members);
     }
+    // Of all members first: a sound store has no others, and a loop of a fixed length takes them many at a time to the end.
+    if within(a, b, Store::MEMBERS) {
+        return true;
+    }
     within(a, b, members)
 }
 

@@ -2,9 +2,9 @@
 use Prim.Native.Nat.{ℕ, _+_, _*_, _<_, _≤_}
 use native.Mathlib.Omega.{arith}
 use native.Mathlib.Decide.{decLt}
-use mathlib.Core.Bool.{Bool, true, false, _&&_, _||_, and-comm}
+use mathlib.Core.Bool.{Bool, true, false, _&&_, _||_, and-comm, and-false}
 use mathlib.Core.Option.{Option, none, some}
-use mathlib.Core.Path.{_≡_, refl, sym, ap, ap₂, _∙_}
+use mathlib.Core.Path.{_≡_, refl, sym, ap, ap₂, _∙_, fun-ext}
 use lib.ListN.{length}
 use lib.Dec.{ltb}
 use borrow.Author.Tests.{lt-ltb, le-ltb}
@@ -20,7 +20,7 @@ use Rattle.store.specs.Rows.{storeProgram}
 use Rattle.store.proofs.Laws.{program-length}
 use Rattle.tables.specs.Tables.{storeFlow}
 use Rattle.grids.specs.Grid.{Shows}
-use Rattle.row_marks.specs.RowMarks.{on, marked, Marked, threeMeet}
+use Rattle.row_marks.specs.RowMarks.{on, marked, Marked, threeMeet, NoneMarked}
 use Rattle.row_marks.proofs.Marking.{marked-in, marked-past}
 use Rattle.place_marks.proofs.Placing.{any-none}
 use Rattle.walks.specs.Walks.{aheadOf, leadsOn, forksOn, rivalsOn}
@@ -92,3 +92,36 @@ module _ (n : ℕ) (s : Bytes) (few : n ≤ rowLimit) (grid comes places : Bytes
         → record { twice = twice; rivals = rival } ≡ ends p reaches (marked n comes) at
     unfolding ends
     ends-are e f = rw (e ∙ twice-is, f ∙ rivals-are)
+
+-- ---- no places
+
+-- no walk comes to a place where there is none
+module _ (p : Program) (reaches : ℕ → ℕ → Bool) (comes : ℕ → Bool) where
+  abbrev nowhere : ℕ → Bool
+  nowhere r = false
+
+  leads-nowhere : (r : ℕ) → leads p reaches nowhere r ≡ false
+  unfolding leads
+  leads-nowhere r = any-same (length p) _ (λ k. false) (λ k l. and-false (reaches r k)) ∙ any-none (length p)
+
+  forks-nowhere : (o : Option (ℕ × ℕ)) → has o (λ (t, rest). leads p reaches nowhere t && leads p reaches nowhere rest) ≡ false
+  unfolding has
+  forks-nowhere none = refl
+  forks-nowhere (some (t, rest)) = rw (leads-nowhere t)
+
+  pub ends-nowhere : record { twice = false; rivals = false } ≡ ends p reaches comes nowhere
+  unfolding ends inARow rivals
+  ends-nowhere =
+      let twice : inARow p reaches comes nowhere ≡ false = any-same (length p) _ (λ r. false) (λ r l. and-false (comes r)) ∙ any-none (length p) in
+      let rival : rivals p reaches comes nowhere ≡ false =
+      any-same (length p) _ (λ q. false) (λ q l. ap (λ b. comes q && b) (forks-nowhere (forkAt p q)) ∙ and-false (comes q)) ∙ any-none (length p) in
+      rw (twice, rival)
+
+pub none-there : (n : ℕ) (places : Bytes) → n ≤ rowLimit → NoneMarked places → marked n places ≡ (λ r. false)
+unfolding NoneMarked marked
+none-there n places few h =
+    fun-ext λ r.
+    elim (decLt r n) [
+      | yes l ↦ rw (h r (omega arith), and-false)
+      | no g ↦ rw (le-ltb r n (omega arith))
+    ]

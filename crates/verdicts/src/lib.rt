@@ -5,6 +5,7 @@ use place_marks::places;
 use program::Ends;
 use program::Facts;
 use program::Word;
+use row_marks::none_marked;
 use row_marks::three_meet;
 use walks::reached_rows;
 use walks::rivals;
@@ -28,6 +29,12 @@ fn ends_of(store: &[u8], rows: u8, grid: &[u8], comes: &[u8], places: &[u8]) -> 
     requires { ⌜ Shows (reach (storeProgram rows (now store)) (storeFlow (now store))) (now grid) ⌝ }
     ensures { λ e. ⌜ (let bytes = now (store .entry) in e ≡ endsAt rows (storeProgram rows bytes) (storeFlow bytes) (now (comes .entry)) (now (places .entry))) ⌝ }
 {
+    if none_marked(places) {
+        return Ends {
+            twice: false,
+            rivals: false,
+        };
+    }
     let ahead = rows_ahead(grid, rows, places);
     Ends {
         twice: three_meet(comes, places, &ahead, rows as usize),
