@@ -16,9 +16,10 @@ use crate::reference::structure;
 
 /// How many rows and names there can be.
 pub const LIMIT: usize = NUMBER_LIMIT;
-const ROW_SIZE: usize = 8;
+/// The bytes of a row.
+pub const ROW_SIZE: usize = 8;
 /// The members of a set: unit and the rows.
-const SET_SIZE: usize = LIMIT + 1;
+pub const SET_SIZE: usize = LIMIT + 1;
 const FLOWS: usize = LIMIT * ROW_SIZE;
 const COMMS: usize = FLOWS + LIMIT * SET_SIZE;
 const CLAIMS: usize = COMMS + LIMIT * SET_SIZE;

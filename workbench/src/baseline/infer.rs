@@ -4,8 +4,8 @@
 //! row share the work.
 
 use super::bits::Bits;
-use super::{results, rows, UNIT};
-use crate::layout::{set_place, LIMIT, TABLES};
+use super::UNIT;
+use crate::layout::{row, set_place, LIMIT, TABLES};
 use crate::reference::document::{Branch, Form, Name, Row, Table};
 
 /// Puts in the smallest tables; the counts of rows, flows, comms and claims.
@@ -16,6 +16,23 @@ pub fn infer(store: &mut [u8]) -> [usize; 4] {
     let claims = &store[TABLES.end..][..LIMIT];
     let claims = claims.iter().filter(|&&code| code != 0).count();
     [growth.rows.len(), flows, comms, claims]
+}
+
+/// The rows of a store.
+fn rows(store: &[u8]) -> Vec<Row> {
+    (0..LIMIT).map_while(|number| row(store, number)).collect()
+}
+
+/// For each row, the name in the result reached by rests.
+fn results(rows: &[Row]) -> Vec<Name> {
+    let mut results = vec![0; rows.len()];
+    for (number, row) in rows.iter().enumerate().rev() {
+        results[number] = match row {
+            Row::Result(name) => *name,
+            Row::Bind(bind) => results[bind.rest],
+        };
+    }
+    results
 }
 
 /// The number of a set: a name's is the name's own; a row's comes after all
@@ -56,7 +73,7 @@ enum Watcher {
 
 struct Growth {
     rows: Vec<Row>,
-    results: Vec<(Name, usize)>,
+    results: Vec<Name>,
     sets: Vec<Bits>,
     /// What is new in each set and not handed on yet.
     fresh: Vec<Bits>,
@@ -163,7 +180,7 @@ impl Growth {
                 (Watcher::Case { left, right, into }, form) => {
                     if let Some((branch, inner)) = form.branch_taken(left, right) {
                         self.lies_in(inner, branch.name);
-                        self.lies_in(self.results[branch.row].0, into);
+                        self.lies_in(self.results[branch.row], into);
                     }
                 }
                 (
@@ -173,7 +190,7 @@ impl Growth {
                     },
                 ) => {
                     self.lies_in(argument, parameter);
-                    self.lies_in(self.results[body].0, into);
+                    self.lies_in(self.results[body], into);
                 }
                 (
                     Watcher::Sync { into },
