@@ -25,7 +25,7 @@ pub use limits::{chain, file_of_length, full_document};
 pub use lively::{lively_document, some_step};
 pub use program::program;
 pub use replacements::{draw_list, draw_replacement, ListKind, Replacement};
-pub use scaled::{dense, shared, workers};
+pub use scaled::{channels, dense, shared, workers};
 pub use structure::{break_structure, structural_file};
 pub use tables::{narrow, widen, Tables};
 pub use written::Written;

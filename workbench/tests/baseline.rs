@@ -4,8 +4,8 @@
 use workbench::baseline::{self, tested};
 use workbench::differential::{draw_file, draw_store, open, FileKind, StoreKind};
 use workbench::generate::{
-    bare_document, claim_anything, dense, hardest, loadable_document, loose_document, shared,
-    wide_document, workers, Random, Size,
+    bare_document, channels, claim_anything, dense, hardest, loadable_document, loose_document,
+    shared, wide_document, workers, Random, Size,
 };
 use workbench::layout::{encode, STORE_SIZE, TABLES};
 use workbench::reference::check;
@@ -57,6 +57,9 @@ fn it_answers_as_the_reference_on_what_is_measured() {
     for rows in [20, 40, 80] {
         assert_eq!(compare(&workers(rows)), 0);
         assert_eq!(compare(&shared(rows)), 0);
+    }
+    for document in [workers(NUMBER_LIMIT), channels(NUMBER_LIMIT)] {
+        assert_eq!(compare(&document), 0);
     }
     let store = encode(&dense());
     assert_eq!(baseline::judge(&store), check::judge(&dense()));
@@ -239,7 +242,8 @@ fn it_tests_every_part_of_a_store_as_the_reference() {
 
 #[test]
 fn it_writes_as_the_reference_on_what_is_measured() {
-    for document in [workers(NUMBER_LIMIT), shared(NUMBER_LIMIT), dense()] {
+    let rows = NUMBER_LIMIT;
+    for document in [workers(rows), shared(rows), channels(rows), dense()] {
         assert_eq!(compare_tested(&encode(&document)), 0);
     }
 }

@@ -1,6 +1,6 @@
 //! Programs of any number of rows, to see how time grows, and the hardest ones.
 
-use super::Tables;
+use super::{chain, Tables};
 use crate::reference::document::{
     Bind, Claim, Comm, Document, Flow, Form, Name, Row, Set, Word, NUMBER_LIMIT,
 };
@@ -55,6 +55,15 @@ pub fn workers(rows: usize) -> Document {
         rows: list,
         ..Document::default()
     };
+    Tables::empty().close(&document.rows).put(&mut document);
+    claim_all(&mut document, Word::OneShot);
+    document
+}
+
+/// So many rows, all of them claimed channels but the last, and no sync: each claim
+/// holds, as there is nowhere to send or receive. The tables are the least.
+pub fn channels(rows: usize) -> Document {
+    let mut document = chain(rows);
     Tables::empty().close(&document.rows).put(&mut document);
     claim_all(&mut document, Word::OneShot);
     document
