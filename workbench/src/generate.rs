@@ -8,6 +8,7 @@ mod documents;
 mod hardest;
 mod limits;
 mod lively;
+mod nested;
 mod program;
 mod replacements;
 mod scaled;
@@ -23,6 +24,7 @@ pub use documents::{
 pub use hardest::{hardest, hearing, sharing, takers, unwinding};
 pub use limits::{chain, file_of_length, full_document};
 pub use lively::{lively_document, some_step};
+pub use nested::nested;
 pub use program::program;
 pub use replacements::{draw_list, draw_replacement, ListKind, Replacement};
 pub use scaled::{channels, dense, shared, workers};
