@@ -3,6 +3,7 @@ use calls::JudgeAnswer;
 use claim_words::word_of;
 use format::Reason;
 use format::Refusal;
+use row_lists::rows_of_kind;
 use store::Store;
 ghost use mathlib.Core.Path.{_≡_};
 ghost use Prim.Native.Nat.{_≤_};
@@ -21,6 +22,11 @@ pub fn judge_claims(store: &[u8], rows: u8, grid: &[u8], line: usize) -> JudgeAn
     requires { ⌜ Shows (reach (storeProgram rows (now store)) (storeFlow (now store))) (now grid) ⌝ }
     ensures { λ a. ⌜ (let bytes = now (store .entry) in a ≡ claimsJudged (claimIn (storeProgram rows bytes) (storeFlow bytes)) line 0 (storeClaims bytes)) ⌝ }
 {
+    let comes = walks::reached_rows(grid, rows);
+    let sends = rows_of_kind(store, rows, 4);
+    let receives = rows_of_kind(store, rows, 5);
+    let syncs = rows_of_kind(store, rows, 11);
+    let spawns = rows_of_kind(store, rows, 10);
     let mut held = 0;
     let mut c = 0;
     while c < Store::ROWS {
@@ -31,7 +37,18 @@ pub fn judge_claims(store: &[u8], rows: u8, grid: &[u8], line: usize) -> JudgeAn
             continue;
         }
         let word = word_of(code);
-        if verdicts::word_holds(store, rows, grid, row, word) {
+        if verdicts::word_holds(
+            store,
+            rows,
+            grid,
+            &comes,
+            &sends,
+            &receives,
+            &syncs,
+            &spawns,
+            row,
+            word,
+        ) {
             held += 1;
             continue;
         }

@@ -1,18 +1,18 @@
 // The send and receive places of a channel.
 use forms::form_at;
 use program::Form;
-use row_marks::meets;
 use store::Store;
 use tables::flow_has;
 ghost use mathlib.Core.Path.{_≡_};
-ghost use Prim.Native.Nat.{_≤_};
-ghost use lib.ListN.{length};
+ghost use Prim.Native.Nat.{ℕ, _≤_};
 ghost use Rattle.format.specs.Limits.{rowLimit};
 ghost use Rattle.calls.specs.Layout.{storeSize};
 ghost use Rattle.store.specs.Rows.{storeProgram};
 ghost use Rattle.tables.specs.Tables.{storeFlow};
+ghost use Rattle.row_lists.specs.Lists.{Lists, ofKind};
 ghost use Rattle.row_marks.specs.RowMarks.{Marked};
-ghost use Rattle.place_marks.specs.Places.{eventOn, place, placeOn};
+ghost use Rattle.place_marks.specs.declared.Side.{Side};
+ghost use Rattle.place_marks.specs.Places.{kindOn, eventOn, oneIn, place};
 
 // The two ends of a channel.
 pub enum Side {
@@ -54,26 +54,51 @@ fn event_on(store: &[u8], rows: u8, side: Side, c: u8, s: u8) -> bool
     }
 }
 
-// The rows of which that holds.
-fn events(store: &[u8], rows: u8, side: Side, c: u8) -> [u8; Store::ROWS]
+// The rows of a list of sends or recvs, by the side, of which that holds, as a list.
+fn events(store: &[u8], rows: u8, side: Side, list: &[u8], c: u8) -> [u8; Store::MEMBERS]
     requires { ⌜ rows ≤ rowLimit ⌝ }
-    ensures { λ marks. ⌜ (let bytes = now (store .entry) in Marked rows (eventOn (storeProgram rows bytes) (storeFlow bytes) side c) marks) ⌝ }
+    requires { ⌜ Lists rows (ofKind (now store) (kindOn side)) (now list) ⌝ }
+    ensures { λ on. ⌜ (let bytes = now (store .entry) in Lists rows (eventOn (storeProgram rows bytes) (storeFlow bytes) side c) on) ⌝ }
 {
-    let mut marks = [0u8; Store::ROWS];
-    let mut s = 0;
-    while s < rows {
-        let mark = event_on(store, rows, side, c, s) as u8;
-        let i = s as usize;
-        marks[i] = mark;
-        s += 1;
+    let many = read_text::byte_at(list, 0);
+    let mut on = [0u8; Store::MEMBERS];
+    let mut count = 0;
+    let mut i = 0;
+    while i < many {
+        i += 1;
+        let s = read_text::byte_at(list, i as usize);
+        if event_on(store, rows, side, c, s) {
+            count += 1;
+            let j = count as usize;
+            on[j] = s;
+            continue;
+        }
     }
-    marks
+    on[0] = count;
+    on
+}
+
+// Whether one of the rows in a list is in the set whose rows begin at a position.
+fn has_event(store: &[u8], at: usize, events: &[u8]) -> bool
+    requires { ⌜ at ≤ storeSize ⌝ }
+    ensures { λ b. ⌜ b ≡ oneIn (now (store .entry)) at (now (events .entry)) ⌝ }
+{
+    let many = read_text::byte_at(events, 0);
+    let mut i = 0;
+    while i < many {
+        i += 1;
+        let s = read_text::byte_at(events, i as usize);
+        if 0 < read_text::byte_at(store, at + s as usize) {
+            return true;
+        }
+    }
+    false
 }
 
 // Whether row r is a sync with one of these rows in its set.
 fn is_place(store: &[u8], rows: u8, events: &[u8], r: u8) -> bool
-    requires { ⌜ (storeSize ≤ length (now store)) × (rows ≤ rowLimit) × (rowLimit ≤ length (now events)) ⌝ }
-    ensures { λ b. ⌜ (let bytes = now (store .entry) in b ≡ placeOn (storeProgram rows bytes) (storeFlow bytes) (now (events .entry)) r) ⌝ }
+    requires { ⌜ rows ≤ rowLimit ⌝ }
+    ensures { λ b. ⌜ (let bytes = now (store .entry) in (side : Side) (c : ℕ) → Lists rows (eventOn (storeProgram rows bytes) (storeFlow bytes) side c) (now (events .entry)) → b ≡ place (storeProgram rows bytes) (storeFlow bytes) side c r) ⌝ }
 {
     let Form::Sync { event } = form_at(store, rows, r) else {
         return false;
@@ -83,22 +108,33 @@ fn is_place(store: &[u8], rows: u8, events: &[u8], r: u8) -> bool
         return false;
     }
     let at = Store::FLOWS + name * Store::MEMBERS + 1;
-    meets(store, at, events, rows as usize)
+    has_event(store, at, events)
 }
 
-// The places of channel row c on one side.
-pub fn places(store: &[u8], rows: u8, side: Side, c: u8) -> [u8; Store::ROWS]
-    requires { ⌜ (storeSize ≤ length (now store)) × (rows ≤ rowLimit) ⌝ }
+// The places of channel row c on one side, by the lists of the side's rows and of the syncs.
+pub fn places(
+    store: &[u8],
+    rows: u8,
+    side: Side,
+    list: &[u8],
+    syncs: &[u8],
+    c: u8,
+) -> [u8; Store::ROWS]
+    requires { ⌜ rows ≤ rowLimit ⌝ }
+    requires { ⌜ Lists rows (ofKind (now store) (kindOn side)) (now list) ⌝ }
+    requires { ⌜ Lists rows (ofKind (now store) 11) (now syncs) ⌝ }
     ensures { λ marks. ⌜ (let bytes = now (store .entry) in Marked rows (place (storeProgram rows bytes) (storeFlow bytes) side c) marks) ⌝ }
 {
-    let on = events(store, rows, side, c);
+    let on = events(store, rows, side, list, c);
+    let many = read_text::byte_at(syncs, 0);
     let mut marks = [0u8; Store::ROWS];
-    let mut r = 0;
-    while r < rows {
+    let mut i = 0;
+    while i < many {
+        i += 1;
+        let r = read_text::byte_at(syncs, i as usize);
         let mark = is_place(store, rows, &on, r) as u8;
-        let i = r as usize;
-        marks[i] = mark;
-        r += 1;
+        let j = r as usize;
+        marks[j] = mark;
     }
     marks
 }

@@ -5,6 +5,7 @@ use place_marks::places;
 use program::Ends;
 use program::Facts;
 use program::Word;
+use row_lists::rows_of_kind;
 use row_marks::none_marked;
 use row_marks::three_meet;
 use walks::reached_rows;
@@ -21,12 +22,23 @@ ghost use Rattle.calls.specs.Judging.{verdictWords};
 ghost use Rattle.store.specs.Rows.{storeProgram};
 ghost use Rattle.tables.specs.Tables.{storeFlow};
 ghost use Rattle.grids.specs.Grid.{gridSize, Shows};
+ghost use Rattle.row_lists.specs.Lists.{Lists, ofKind};
 ghost use Rattle.verdicts.specs.Words.{endsAt, factsAt, wordIn, factsIn};
+ghost use Rattle.verdicts.specs.Ready.{Ready};
 
-// What is found of the walks that come to the marked places, where `comes` marks the rows that their shared beginnings come to.
-fn ends_of(store: &[u8], rows: u8, grid: &[u8], comes: &[u8], places: &[u8]) -> Ends
+// What is found of the walks that come to the marked places, where `comes` marks the rows that their shared beginnings come to, by the list
+// of the spawns.
+fn ends_of(
+    store: &[u8],
+    rows: u8,
+    grid: &[u8],
+    spawns: &[u8],
+    comes: &[u8],
+    places: &[u8],
+) -> Ends
     requires { ⌜ (rows ≤ rowLimit) × (gridSize ≤ length (now grid)) × (rowLimit ≤ length (now comes)) × (rowLimit ≤ length (now places)) ⌝ }
     requires { ⌜ Shows (reach (storeProgram rows (now store)) (storeFlow (now store))) (now grid) ⌝ }
+    requires { ⌜ Lists rows (ofKind (now store) 10) (now spawns) ⌝ }
     ensures { λ e. ⌜ (let bytes = now (store .entry) in e ≡ endsAt rows (storeProgram rows bytes) (storeFlow bytes) (now (comes .entry)) (now (places .entry))) ⌝ }
 {
     if none_marked(places) {
@@ -38,25 +50,27 @@ fn ends_of(store: &[u8], rows: u8, grid: &[u8], comes: &[u8], places: &[u8]) -> 
     let ahead = rows_ahead(grid, rows, places);
     Ends {
         twice: three_meet(comes, places, &ahead, rows as usize),
-        rivals: rivals(store, rows, comes, places, &ahead),
+        rivals: rivals(store, rows, spawns, comes, places, &ahead),
     }
 }
 
 // The same of marked send places and marked receive places.
-pub fn facts(
+fn facts(
     store: &[u8],
     rows: u8,
     grid: &[u8],
+    spawns: &[u8],
     comes: &[u8],
     sends: &[u8],
     receives: &[u8],
 ) -> Facts
     requires { ⌜ (rows ≤ rowLimit) × (gridSize ≤ length (now grid)) × (rowLimit ≤ length (now comes)) × (rowLimit ≤ length (now sends)) × (rowLimit ≤ length (now receives)) ⌝ }
     requires { ⌜ Shows (reach (storeProgram rows (now store)) (storeFlow (now store))) (now grid) ⌝ }
+    requires { ⌜ Lists rows (ofKind (now store) 10) (now spawns) ⌝ }
     ensures { λ f. ⌜ (let bytes = now (store .entry) in f ≡ factsAt rows (storeProgram rows bytes) (storeFlow bytes) (now (comes .entry)) (now (sends .entry)) (now (receives .entry))) ⌝ }
 {
-    let of_sends = ends_of(store, rows, grid, comes, sends);
-    let of_receives = ends_of(store, rows, grid, comes, receives);
+    let of_sends = ends_of(store, rows, grid, spawns, comes, sends);
+    let of_receives = ends_of(store, rows, grid, spawns, comes, receives);
     Facts {
         sends: of_sends,
         receives: of_receives,
@@ -65,25 +79,77 @@ pub fn facts(
 
 // What is found at the ends of channel row c: over all pairs of walks that can share a run, whose shared beginnings come to
 // every row that a walk comes to.
-fn channel_facts(store: &[u8], rows: u8, grid: &[u8], c: u8) -> Facts
-    requires { ⌜ (storeSize ≤ length (now store)) × (rows ≤ rowLimit) × (gridSize ≤ length (now grid)) ⌝ }
+fn channel_facts(
+    store: &[u8],
+    rows: u8,
+    grid: &[u8],
+    comes: &[u8],
+    sends: &[u8],
+    receives: &[u8],
+    syncs: &[u8],
+    spawns: &[u8],
+    c: u8,
+) -> Facts
+    requires { ⌜ Ready rows (now store) (now grid) (now comes) (now sends) (now receives) (now syncs) (now spawns) ⌝ }
+    ensures { λ f. ⌜ f ≡ factsIn (storeProgram rows (now (store .entry))) (storeFlow (now (store .entry))) c ⌝ }
+{
+    let sent = places(store, rows, Side::Sends, sends, syncs, c);
+    let received = places(store, rows, Side::Receives, receives, syncs, c);
+    facts(store, rows, grid, spawns, comes, &sent, &received)
+}
+
+// Whether a word holds of channel row c: `comes` marks the rows that walks come to, the others are the lists of the rows of their kinds.
+pub fn word_holds(
+    store: &[u8],
+    rows: u8,
+    grid: &[u8],
+    comes: &[u8],
+    sends: &[u8],
+    receives: &[u8],
+    syncs: &[u8],
+    spawns: &[u8],
+    c: u8,
+    word: Word,
+) -> bool
+    requires { ⌜ Ready rows (now store) (now grid) (now comes) (now sends) (now receives) (now syncs) (now spawns) ⌝ }
+    ensures { λ b. ⌜ b ≡ wordIn (storeProgram rows (now (store .entry))) (storeFlow (now (store .entry))) c word ⌝ }
+{
+    let found = channel_facts(
+        store,
+        rows,
+        grid,
+        comes,
+        sends,
+        receives,
+        syncs,
+        spawns,
+        c,
+    );
+    says(word, found)
+}
+
+// What is found at the ends of channel row c, with marks and lists of its own.
+fn own_facts(store: &[u8], rows: u8, grid: &[u8], c: u8) -> Facts
+    requires { ⌜ (rows ≤ rowLimit) × (gridSize ≤ length (now grid)) ⌝ }
     requires { ⌜ Shows (reach (storeProgram rows (now store)) (storeFlow (now store))) (now grid) ⌝ }
     ensures { λ f. ⌜ f ≡ factsIn (storeProgram rows (now (store .entry))) (storeFlow (now (store .entry))) c ⌝ }
 {
-    let reached = reached_rows(grid, rows);
-    let sends = places(store, rows, Side::Sends, c);
-    let receives = places(store, rows, Side::Receives, c);
-    facts(store, rows, grid, &reached, &sends, &receives)
-}
-
-// Whether a word holds of channel row c.
-pub fn word_holds(store: &[u8], rows: u8, grid: &[u8], c: u8, word: Word) -> bool
-    requires { ⌜ (storeSize ≤ length (now store)) × (rows ≤ rowLimit) × (gridSize ≤ length (now grid)) ⌝ }
-    requires { ⌜ Shows (reach (storeProgram rows (now store)) (storeFlow (now store))) (now grid) ⌝ }
-    ensures { λ b. ⌜ b ≡ wordIn (storeProgram rows (now (store .entry))) (storeFlow (now (store .entry))) c word ⌝ }
-{
-    let found = channel_facts(store, rows, grid, c);
-    says(word, found)
+    let comes = reached_rows(grid, rows);
+    let sends = rows_of_kind(store, rows, 4);
+    let receives = rows_of_kind(store, rows, 5);
+    let syncs = rows_of_kind(store, rows, 11);
+    let spawns = rows_of_kind(store, rows, 10);
+    channel_facts(
+        store,
+        rows,
+        grid,
+        &comes,
+        &sends,
+        &receives,
+        &syncs,
+        &spawns,
+        c,
+    )
 }
 
 // The five words of channel row c, in the order one-shot, one-to-one, fan-out, fan-in, one-sync.
@@ -92,7 +158,7 @@ pub fn words(store: &[u8], rows: u8, grid: &[u8], c: u8) -> [bool; 5]
     requires { ⌜ Shows (reach (storeProgram rows (now store)) (storeFlow (now store))) (now grid) ⌝ }
     ensures { λ w. ⌜ w ≡ map (wordIn (storeProgram rows (now (store .entry))) (storeFlow (now (store .entry))) c) verdictWords ⌝ }
 {
-    let found = channel_facts(store, rows, grid, c);
+    let found = own_facts(store, rows, grid, c);
     let one_shot = says(Word::OneShot, found);
     let one_to_one = says(Word::OneToOne, found);
     let fan_out = says(Word::FanOut, found);

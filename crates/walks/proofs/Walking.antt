@@ -3,28 +3,53 @@ use Prim.Native.Nat.{ℕ, _+_, _*_, _≤_, _<_, max}
 use native.Mathlib.Omega.{arith}
 use native.Mathlib.Numerals.{add-one}
 use native.Mathlib.Decide.{ℕ-discrete as decEq}
-use mathlib.Core.Bool.{Bool, true, false, _&&_, _||_}
+use mathlib.Core.Bool.{Bool, true, false, _&&_, _||_, and-false}
 use mathlib.Core.Path.{_≡_, refl, sym, ap, _∙_}
 use lib.ListN.{length, getD, set, replicate, length-set, length-replicate}
 use lib.Seq.{getD-set-same, getD-set-other}
 use lib.Dec.{ltb}
 use borrow.Author.Tests.{lt-ltb, ne-eqb}
 use Rattle.program.specs.Test.{any}
-use Rattle.program.proofs.Test.{any-intro}
+use Rattle.program.specs.Maybe.{has}
+use Rattle.program.proofs.Test.{any-intro, any-same}
 use Rattle.format.specs.Limits.{rowLimit}
 use Rattle.format.specs.Text.{Bytes, byteAt}
+use Rattle.store.specs.Rows.{storeProgram}
 use Rattle.store.proofs.Laws.{zeros-at}
+use Rattle.row_lists.specs.Lists.{Lists, ofKind}
+use Rattle.row_lists.proofs.Listing.{any-listed}
+use Rattle.row_lists.proofs.OfKind.{fork-none}
 use Rattle.row_marks.specs.RowMarks.{on, Marked}
 use Rattle.row_marks.proofs.Marking.{over-max}
-use Rattle.walks.specs.Walks.{comesTo, JoinsMarks}
+use Rattle.walks.specs.Walks.{comesTo, JoinsMarks, forksOn, rivalsOn}
 
-module _ (f : ℕ → Bool) where
-  pub none-more : (q : ℕ) → any q f ≡ false → f q ≡ false → any (q + 1) f ≡ false
+-- ---- rows of a list of which a test holds of none
+
+module _ (list : Bytes) (f : ℕ → Bool) where
+  abbrev pub oneOf : ℕ → Bool
+  oneOf i = any i λ j. f (byteAt list (j + 1))
+
+  pub none-more : (i : ℕ) {r : ℕ} → r ≡ byteAt list (i + 1) → f r ≡ false → oneOf i ≡ false → oneOf (i + 1) ≡ false
   unfolding any
-  none-more q h e = rw (add-one q, e) h
+  none-more i e z h = rw (add-one i, ← e, z) h
 
-  pub one-found : (n q : ℕ) → q < n → f q ≡ true → true ≡ any n f
-  one-found n q l e = sym (any-intro f q l e)
+  pub one-found : (i : ℕ) {r : ℕ} → r ≡ byteAt list (i + 1) → i < byteAt list 0 → f r ≡ true → oneOf (byteAt list 0) ≡ true
+  one-found i e l t = any-intro (λ j. f (byteAt list (j + 1))) i l (rw (← e) t)
+
+-- ---- spawns
+
+module _ (n : ℕ) (s : Bytes) (reached places ahead : Bytes) where
+  abbrev pub parts : ℕ → Bool
+  parts q = on reached q && forksOn n (storeProgram n s) places ahead q
+
+  -- walks part at spawns alone
+  pub spawns-tell : (spawns : Bytes) → Lists n (ofKind s 10) spawns → oneOf spawns parts (byteAt spawns 0) ≡ rivalsOn n (storeProgram n s) reached places ahead
+  unfolding rivalsOn forksOn has
+  spawns-tell spawns h = any-listed spawns h parts ∙ any-same n _ _ (λ q l. go q l (ofKind s 10 q) refl)
+    where
+      go : (q : ℕ) → q < n → (t : Bool) → ofKind s 10 q ≡ t → t && parts q ≡ parts q
+      go q l true e = refl
+      go q l false e = rw (fork-none n s q l e) (sym (and-false (on reached q)))
 
 module _ (marks : Bytes) (q : ℕ) {x : ℕ} (e : x ≡ byteAt marks q) where
   pub not-on : (b : Bool) → x ≡ 0 → on marks q && b ≡ false

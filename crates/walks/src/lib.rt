@@ -10,6 +10,7 @@ ghost use lib.ListN.{length};
 ghost use Rattle.format.specs.Limits.{rowLimit};
 ghost use Rattle.store.specs.Rows.{storeProgram};
 ghost use Rattle.grids.specs.Grid.{gridSize};
+ghost use Rattle.row_lists.specs.Lists.{Lists, ofKind};
 ghost use Rattle.row_marks.specs.RowMarks.{Marked};
 ghost use Rattle.walks.specs.Walks.{comesTo, JoinsMarks, aheadOf, leadsOn, forksOn, rivalsOn};
 
@@ -94,20 +95,29 @@ fn forks(store: &[u8], rows: u8, places: &[u8], ahead: &[u8], q: u8) -> bool
     false
 }
 
-// Whether a walk comes to such a row.
-pub fn rivals(store: &[u8], rows: u8, reached: &[u8], places: &[u8], ahead: &[u8]) -> bool
+// Whether a walk comes to such a row, by the list of the spawns.
+pub fn rivals(
+    store: &[u8],
+    rows: u8,
+    spawns: &[u8],
+    reached: &[u8],
+    places: &[u8],
+    ahead: &[u8],
+) -> bool
+    requires { ⌜ Lists rows (ofKind (now store) 10) (now spawns) ⌝ }
     ensures { λ b. ⌜ b ≡ rivalsOn rows (storeProgram rows (now (store .entry))) (now (reached .entry)) (now (places .entry)) (now (ahead .entry)) ⌝ }
 {
-    let mut q = 0;
-    while q < rows {
+    let many = read_text::byte_at(spawns, 0);
+    let mut i = 0;
+    while i < many {
+        i += 1;
+        let q = read_text::byte_at(spawns, i as usize);
         if read_text::byte_at(reached, q as usize) == 0 {
-            q += 1;
             continue;
         }
         if forks(store, rows, places, ahead, q) {
             return true;
         }
-        q += 1;
     }
     false
 }

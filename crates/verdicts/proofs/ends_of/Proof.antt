@@ -1,5 +1,4 @@
 -- `ends_of` meets its contract: where there are no places nothing is found, else what the bytes find is what the definitions say.
-use mathlib.Core.Path.{_∙_, sym}
 use Rattle.verdicts.proofs.Ends.{ends-are, ends-nowhere, none-there}
 use borrow.Author.Needs.{needs}
 use Rattle.verdicts.proofs.ends_of.Statement.{statement}
@@ -9,7 +8,7 @@ none-marked-requires : tie.Need-none-marked-requires
 none-marked-requires c κs = search needs
 
 returns : tie.Need-returns
-returns c = rw (none-there _ _ (c .before .before .before .before .before .before .pre .0 .0) (c .before .none-marked .ensures (c .if1 .taken))) (ends-nowhere _ _ _)
+returns c = rw (none-there _ _ (c .before .before .before .before .before .before .before .pre .0 .0) (c .before .none-marked .ensures (c .if1 .taken))) (ends-nowhere _ _ _)
 
 rows-ahead-requires : tie.Need-rows-ahead-requires
 rows-ahead-requires c κs = search needs
@@ -27,7 +26,7 @@ rivals-requires : tie.Need-rivals-requires
 rivals-requires c κs = search needs
 
 returns-2 : tie.Need-returns-2
-returns-2 c = ends-are _ _ (c .before .before .before .before .before .before .before .before .before .before .before .pre .0 .0) _ _ _ (c .before .before .before .before .before .before .before .before .before .before .before .pre .1) (c .before .before .before .before .rows-ahead .ensures) (c .before .before .three-meet .ensures) (c .rivals .ensures)
+returns-2 c = ends-are _ _ (c .before .before .before .before .before .before .before .before .before .before .before .before .pre .0 .0) _ _ _ (c .before .before .before .before .before .before .before .before .before .before .before .before .pre .1 .0) (c .before .before .before .before .rows-ahead .ensures) (c .before .before .three-meet .ensures) (c .rivals .ensures)
 
 pub ends-of-spec : {M : Type 1} → statement M
 ends-of-spec =

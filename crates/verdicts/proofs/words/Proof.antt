@@ -4,8 +4,8 @@ use borrow.Author.Needs.{needs}
 use Rattle.verdicts.proofs.words.Statement.{statement}
 use Rattle.verdicts.proofs.words.Tie as tie
 
-channel-facts-requires : tie.Need-channel-facts-requires
-channel-facts-requires c κs = search needs
+own-facts-requires : tie.Need-own-facts-requires
+own-facts-requires c κs = search needs
 
 says-requires : tie.Need-says-requires
 says-requires c κs = search needs
@@ -23,16 +23,13 @@ says-requires-5 : tie.Need-says-requires-5
 says-requires-5 c κs = search needs
 
 returns : tie.Need-returns
-returns c =
-    let second = c .before .before .before in
-    let first = second .before in
-    words-are _ _ _ (first .before .channel-facts .ensures) (first .says .ensures) (second .says2 .ensures) (c .before .before .says3 .ensures) (c .before .says4 .ensures) (c .says5 .ensures)
+returns c = words-are _ _ _ (c .before .before .before .before .before .own-facts .ensures) (c .before .before .before .before .says .ensures) (c .before .before .before .says2 .ensures) (c .before .before .says3 .ensures) (c .before .says4 .ensures) (c .says5 .ensures)
 
 pub words-spec : {M : Type 1} → statement M
 words-spec =
     tie.close
     (tie.spec
-    channel-facts-requires
+    own-facts-requires
     says-requires
     says-requires-2
     says-requires-3

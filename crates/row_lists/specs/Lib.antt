@@ -1,0 +1,2 @@
+-- Lists of rows as bytes.
+pub mod Lists
