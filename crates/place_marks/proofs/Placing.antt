@@ -3,13 +3,13 @@ use Prim.Native.Nat.{ℕ, zero, suc, _+_, _*_, _<_, _≤_}
 use native.Mathlib.Omega.{arith}
 use native.Mathlib.Decide.{ℕ-discrete as decEq}
 use native.Mathlib.Numerals.{add-one}
-use mathlib.Core.Bool.{Bool, true, false, _&&_, _||_, So, and-comm, and-false}
-use mathlib.Core.Path.{_≡_, refl, sym, ap, ap₂, _∙_}
-use mathlib.Core.Option.{Option, none, some}
+use mathlib.Core.Bool.{Bool, true, false, _&&_, So, and-comm}
+use mathlib.Core.Path.{_≡_, refl, sym, ap, _∙_}
+use mathlib.Core.Option.{none, some}
 use lib.ListN.{length, set, replicate, length-set, length-replicate}
 use lib.Seq.{getD-set-same, getD-set-other}
-use lib.Dec.{ltb, eqb}
-use borrow.Author.Tests.{le-leb, lt-leb, lt-ltb, eq-eqb, ne-eqb}
+use lib.Dec.{ltb}
+use borrow.Author.Tests.{le-leb, lt-leb, lt-ltb}
 use Rattle.program.specs.Test.{any}
 use Rattle.program.specs.Maybe.{has}
 use Rattle.program.specs.Program.{Program, syncAt}
@@ -24,7 +24,7 @@ use Rattle.store.specs.Rows.{storeProgram}
 use Rattle.store.proofs.Laws.{program-length, zeros-at}
 use Rattle.tables.specs.Tables.{flagAt, flowFlag, storeFlow}
 use Rattle.row_lists.specs.Lists.{Lists, ofKind}
-use Rattle.row_lists.proofs.Listing.{any-listed, one-listed, among}
+use Rattle.row_lists.proofs.Listing.{any-listed, one-listed, among, among-here, among-other}
 use Rattle.row_lists.proofs.OfKind.{send-none, recv-none, sync-none}
 use Rattle.place_marks.specs.declared.Side.{Side}
 use Rattle.place_marks.specs.declared.Side.the-variants.{Sends, Receives}
@@ -122,13 +122,13 @@ of-none list f = record { size = length-replicate {A = ℕ} rowLimit 0; rows = �
 
 pub of-more : {n : ℕ} (list : Bytes) (i v : ℕ) {f : ℕ → Bool} {marks : Bytes} {r : ℕ} → r ≡ byteAt list (i + 1) → r < rowLimit → ltb 0 v ≡ f r → MarkedOf n list i f marks
     → MarkedOf n list (i + 1) f (set marks r v)
-unfolding any on
+unfolding on
 of-more list i v {f} {marks} {r} e l t h =
     record {
       size = simp length-set (h .size);
       rows = λ q k. elim (decEq q r) [
-        | yes d ↦ rw (d, getD-set-same marks r v 0 (omega (arith, h .size)), add-one, eq-eqb (byteAt list (i + 1)) r (sym e)) t
-        | no d ↦ rw (getD-set-other marks r q v 0 d, add-one, ne-eqb (byteAt list (i + 1)) q (λ z. d (sym (e ∙ z)))) (h .rows q k)
+        | yes d ↦ rw (d, getD-set-same marks r v 0 (omega (arith, h .size)), among-here list i r (sym e)) t
+        | no d ↦ rw (getD-set-other marks r q v 0 d, among-other list i q (λ z. d (sym (e ∙ z)))) (h .rows q k)
       ];
     }
 

@@ -9,7 +9,7 @@ use mathlib.Core.Path.{_≡_, refl, sym, ap, _∙_}
 use lib.ListN.{length, set, replicate, length-set}
 use lib.Seq.{getD-set-same, getD-set-other}
 use lib.Dec.{ltb, eqb}
-use borrow.Author.Tests.{lt-ltb, ltb-true, eq-eqb, eqb-true}
+use borrow.Author.Tests.{lt-ltb, ltb-true, eq-eqb, ne-eqb, eqb-true}
 use Rattle.program.specs.Test.{any}
 use Rattle.program.proofs.Test.{and-left, and-right, and-intro, or-left, or-right, or-cases, any-intro, any-elim, same-tests}
 use Rattle.format.specs.Limits.{rowLimit}
@@ -94,6 +94,16 @@ module _ {n : ℕ} {f : ℕ → Bool} (list : Bytes) (h : Lists n f list) where
 -- one of the first i rows of a list is q
 abbrev pub among : Bytes → ℕ → ℕ → Bool
 among list i q = any i λ j. eqb (byteAt list (j + 1)) q
+
+-- one row more
+module _ (list : Bytes) (i q : ℕ) where
+  pub among-here : byteAt list (i + 1) ≡ q → among list (i + 1) q ≡ true
+  unfolding any
+  among-here e = rw (add-one i) (or-left (among list i q) (eq-eqb (byteAt list (i + 1)) q e))
+
+  pub among-other : (byteAt list (i + 1) ≡ q → ⊥) → among list (i + 1) q ≡ among list i q
+  unfolding any
+  among-other d = rw (add-one i) (ap (λ b. b || among list i q) (ne-eqb (byteAt list (i + 1)) q d))
 
 module _ (list : Bytes) (g : ℕ → Bool) where
   -- the rows so far

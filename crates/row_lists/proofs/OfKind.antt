@@ -12,7 +12,7 @@ use Rattle.program.specs.declared.Bind.{Bind}
 use Rattle.program.specs.declared.Form.{Form}
 use Rattle.program.specs.Test.{pick}
 use Rattle.program.specs.Maybe.{_>>=_}
-use Rattle.program.specs.Program.{rowAt, sendOf, recvOf, syncOf, spawnOf, sendAt, recvAt, syncAt, forkAt}
+use Rattle.program.specs.Program.{rowAt, sendOf, recvOf, syncOf, spawnOf, sendAt, recvAt, syncAt, forkAt, isChan}
 use Rattle.program.proofs.Test.{and-left, and-right, and-intro}
 use Rattle.format.specs.Forms.{formWith, formOf}
 use Rattle.format.specs.Text.{Bytes, byteAt}
@@ -53,7 +53,7 @@ module _ (s : Bytes) (kind : ℕ) where
 
 -- ---- rows of other kinds
 
-other : {A : Type 0} (g : Form → Option A) (t : Bool) {x y : Form} → g x ≡ none → g y ≡ none → g (pick t x y) ≡ none
+other : {A : Type 0} (g : Form → A) {v : A} (t : Bool) {x y : Form} → g x ≡ v → g y ≡ v → g (pick t x y) ≡ v
 other g true e d = e
 other g false e d = d
 
@@ -70,33 +70,47 @@ module _ (k a b c d e : ℕ) where
   no-sync : eqb k 11 ≡ false → syncOf (formWith k a b c d e) ≡ none
   no-sync h = other syncOf (eqb k 2) refl (other syncOf (eqb k 3) refl (other syncOf (eqb k 4) refl (other syncOf (eqb k 5) refl (other syncOf (eqb k 6) refl (other syncOf (eqb k 7) refl (other syncOf (eqb k 8) refl (other syncOf (eqb k 9) refl (other syncOf (eqb k 10) refl (rw h (other syncOf (eqb k 12) refl (other syncOf (eqb k 13) refl (other syncOf (eqb k 14) refl refl))))))))))))
 
+module _ (k a b c d e : ℕ) where
+  no-chan : eqb k 3 ≡ false → isChan (formWith k a b c d e) ≡ false
+  no-chan h = other isChan (eqb k 2) refl (rw h (other isChan (eqb k 4) refl (other isChan (eqb k 5) refl (other isChan (eqb k 6) refl (other isChan (eqb k 7) refl (other isChan (eqb k 8) refl (other isChan (eqb k 9) refl (other isChan (eqb k 10) refl (other isChan (eqb k 11) refl (other isChan (eqb k 12) refl (other isChan (eqb k 13) refl (other isChan (eqb k 14) refl refl))))))))))))
+
 -- the form of a row, by its bytes
-module _ {A : Type 0} (n : ℕ) (s : Bytes) (r : ℕ) (l : r < n) (g : Form → Option A) where
-  form-none : g Form.Unit ≡ none → ((a b c d e : ℕ) → g (formWith (byteAt s (r * rowSize)) a b c d e) ≡ none) → g (formIn (rowAt (storeProgram n s) r)) ≡ none
+module _ {A : Type 0} (n : ℕ) (s : Bytes) (r : ℕ) (l : r < n) (g : Form → A) (v : A) where
+  form-is : g Form.Unit ≡ v → ((a b c d e : ℕ) → g (formWith (byteAt s (r * rowSize)) a b c d e) ≡ v) → g (formIn (rowAt (storeProgram n s) r)) ≡ v
   unfolding rowOf formOf cellsAt formIn
-  form-none u h = rw (row-at-program n s r l, row-cells s r) (go (eqb (byteAt s (r * rowSize)) 1) _ _ (h _ _ _ _ _))
+  form-is u h = rw (row-at-program n s r l, row-cells s r) (go (eqb (byteAt s (r * rowSize)) 1) _ _ (h _ _ _ _ _))
     where
-      go : (t : Bool) (m : ℕ) (x : Bind) → g (x .form) ≡ none → g (formIn (pick t (Row.Result m) (Row.Bind x))) ≡ none
+      go : (t : Bool) (m : ℕ) (x : Bind) → g (x .form) ≡ v → g (formIn (pick t (Row.Result m) (Row.Bind x))) ≡ v
       go true m x e = u
       go false m x e = e
 
 module _ (n : ℕ) (s : Bytes) (r : ℕ) (l : r < n) where
   pub send-none : ofKind s 4 r ≡ false → sendAt (storeProgram n s) r ≡ none
   unfolding ofKind
-  send-none h = send-at (storeProgram n s) r refl ∙ form-none n s r l sendOf refl (λ a b c d e. no-send (byteAt s (r * rowSize)) a b c d e h)
+  send-none h = send-at (storeProgram n s) r refl ∙ form-is n s r l sendOf none refl (λ a b c d e. no-send (byteAt s (r * rowSize)) a b c d e h)
 
   pub recv-none : ofKind s 5 r ≡ false → recvAt (storeProgram n s) r ≡ none
   unfolding ofKind
-  recv-none h = recv-at (storeProgram n s) r refl ∙ form-none n s r l recvOf refl (λ a b c d e. no-recv (byteAt s (r * rowSize)) a b c d e h)
+  recv-none h = recv-at (storeProgram n s) r refl ∙ form-is n s r l recvOf none refl (λ a b c d e. no-recv (byteAt s (r * rowSize)) a b c d e h)
 
   pub sync-none : ofKind s 11 r ≡ false → syncAt (storeProgram n s) r ≡ none
   unfolding ofKind
-  sync-none h = sync-at (storeProgram n s) r refl ∙ form-none n s r l syncOf refl (λ a b c d e. no-sync (byteAt s (r * rowSize)) a b c d e h)
+  sync-none h = sync-at (storeProgram n s) r refl ∙ form-is n s r l syncOf none refl (λ a b c d e. no-sync (byteAt s (r * rowSize)) a b c d e h)
 
   pub fork-none : ofKind s 10 r ≡ false → forkAt (storeProgram n s) r ≡ none
   unfolding ofKind formIn _>>=_
-  fork-none h = go (rowAt (storeProgram n s) r) refl (form-none n s r l spawnOf refl (λ a b c d e. no-spawn (byteAt s (r * rowSize)) a b c d e h))
+  fork-none h = go (rowAt (storeProgram n s) r) refl (form-is n s r l spawnOf none refl (λ a b c d e. no-spawn (byteAt s (r * rowSize)) a b c d e h))
     where
       go : (w : Row) → rowAt (storeProgram n s) r ≡ w → spawnOf (formIn (rowAt (storeProgram n s) r)) ≡ none → forkAt (storeProgram n s) r ≡ none
       go (Row.Result m) e i = fork-end (storeProgram n s) r e
       go (Row.Bind b) e i = fork-bind (storeProgram n s) r e ∙ rw (rw (e, formIn) at i, _>>=_)
+
+-- a row is a chan row exactly if its kind says so
+module _ (n : ℕ) (s : Bytes) (r : ℕ) (l : r < n) where
+  pub chan-none : ofKind s 3 r ≡ false → isChan (formIn (rowAt (storeProgram n s) r)) ≡ false
+  unfolding ofKind
+  chan-none h = form-is n s r l isChan false refl (λ a b c d e. no-chan (byteAt s (r * rowSize)) a b c d e h)
+
+  pub is-chan : So (ofKind s 3 r) → isChan (formIn (rowAt (storeProgram n s) r)) ≡ true
+  unfolding ofKind rowOf formOf cellsAt formIn
+  is-chan h = let k : byteAt s (r * rowSize) ≡ 3 = eqb-true _ 3 h in rw (row-at-program n s r l, row-cells s r, k)

@@ -11,6 +11,7 @@ ghost use mathlib.Core.Path.{_≡_};
 ghost use Rattle.program.specs.Flow.{forEach};
 ghost use Rattle.store.specs.Rows.{storeProgram};
 ghost use Rattle.tables.specs.Tables.{storeFlow, storeComm};
+ghost use Rattle.row_lists.specs.Lists.{Lists, ofKind};
 ghost use Rattle.sets.specs.Sets.{Sized};
 ghost use Rattle.channel_asks.specs.Channels.{Sends, sendTest};
 ghost use Rattle.asks.specs.Asks.{Names};
@@ -36,11 +37,13 @@ pub fn keeps_sync(
     n: u8,
     e: u8,
     names: &[u8],
+    chans: &[u8],
     with: &[u8],
     without: &[u8],
 ) -> bool
     requires { ⌜ Sized rows (now store) ⌝ }
     requires { ⌜ Names (storeProgram rows (now store)) (now names) ⌝ }
+    requires { ⌜ Lists rows (ofKind (now store) 3) (now chans) ⌝ }
     requires { ⌜ Sends rows (now store) true (now with) ⌝ }
     requires { ⌜ Sends rows (now store) false (now without) ⌝ }
     ensures { λ b. ⌜ (let bytes = now (store .entry) in b ≡ syncTest (storeProgram rows bytes) (storeFlow bytes) (storeComm bytes) (storeFlow bytes n) e) ⌝ }
@@ -48,7 +51,7 @@ pub fn keeps_sync(
     let to = flow_set(store, n);
     let given = has_unit(to);
     if sends_pass(store, rows, e, given, with, without) {
-        let marks = passing(store, rows, Demand::Within, to);
+        let marks = passing(store, rows, chans, Demand::Within, to);
         return each_passes(store, rows, Ask::Recv, names, e, &marks);
     }
     false

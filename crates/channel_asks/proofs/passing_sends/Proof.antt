@@ -1,29 +1,38 @@
--- `passing_sends` meets its contract. The loop's invariant: the marks are unit and, of the first k rows, those that pass. The measure is the number of rows left.
+-- `passing_sends` meets its contract. The loop's invariant: all is marked but those of the first i send rows that fail. The measure is the number of send rows left.
 use Prim.Native.Nat.{_≤_, _-_}
 use native.Mathlib.Omega.{arith}
 use mathlib.Core.Path.{_≡_, _∙_}
-use borrow.Author.Needs.{needs}
+use denote.Ref.{now}
 use Rattle.store.specs.Rows.{storeProgram}
 use Rattle.tables.specs.Tables.{storeFlow, storeComm}
-use Rattle.channel_asks.specs.Channels.{sendTest}
-use Rattle.sets.specs.Sets.{PassingSet}
 use Rattle.tables.proofs.Tables.{bool-byte}
-use Rattle.sets.proofs.Members.{marks-none, marks-more}
+use Rattle.channel_asks.specs.Channels.{sendTest}
+use Rattle.channel_asks.proofs.Channels.{Fails, fails-none, fails-more, fails-all, send-other}
+use borrow.Author.Needs.{needs}
 use Rattle.channel_asks.proofs.passing_sends.Statement.{statement}
 use Rattle.channel_asks.proofs.passing_sends.Tie as tie
 
 abbrev Inv-loop : tie.InvT-loop
-Inv-loop store rows given marks₀ k₀ marks k =
-    (k ≤ rows) × PassingSet k (sendTest (storeProgram rows store) (storeFlow store) (storeComm store) given) marks
+Inv-loop store rows chans sends given many marks₀ i₀ marks i =
+    (i ≤ many) × Fails rows sends i (sendTest (storeProgram rows store) (storeFlow store) (storeComm store) given) marks
 
 abbrev μ-loop : tie.MeasureT-loop
-μ-loop store rows given marks₀ k₀ marks k = rows - k
+μ-loop store rows chans sends given many marks₀ i₀ marks i = many - i
 
-array-write-marks : tie.Need-array-write-marks Inv-loop μ-loop
-array-write-marks c = search needs
+byte-at-requires : tie.Need-byte-at-requires Inv-loop μ-loop
+byte-at-requires c κs = search needs
 
 loop-holds : tie.Need-loop-holds Inv-loop μ-loop
-loop-holds c = (omega arith, marks-none _)
+loop-holds c = (omega arith, fails-none _ _ (c .before .before .before .before .pre .0 .few))
+
+add-i : tie.Need-add-i Inv-loop μ-loop
+add-i c = search needs
+
+cast-byte-at : tie.Need-cast-byte-at Inv-loop μ-loop
+cast-byte-at c = search needs
+
+byte-at-requires-2 : tie.Need-byte-at-requires-2 Inv-loop μ-loop
+byte-at-requires-2 c κs = search needs
 
 send-passes-requires : tie.Need-send-passes-requires Inv-loop μ-loop
 send-passes-requires c κs = search needs
@@ -31,23 +40,24 @@ send-passes-requires c κs = search needs
 cast-pass : tie.Need-cast-pass Inv-loop μ-loop
 cast-pass c = search needs
 
-add-k : tie.Need-add-k Inv-loop μ-loop
-add-k c = search needs
+cast-j : tie.Need-cast-j Inv-loop μ-loop
+cast-j c = search needs
 
-cast-i : tie.Need-cast-i Inv-loop μ-loop
-cast-i c = search needs
+add-j : tie.Need-add-j Inv-loop μ-loop
+add-j c = search needs
 
-array-write-marks-2 : tie.Need-array-write-marks-2 Inv-loop μ-loop
-array-write-marks-2 c = search needs
+array-write-marks : tie.Need-array-write-marks Inv-loop μ-loop
+array-write-marks c = let row = c .before .before .before .before .before .before .before .before .pre .1 .1 .rows (c .before .before .before .loop .i) (omega (arith, c .before .before .before .before .byte-at .ensures)) .0 in omega (arith, c .before .before .before .loop .inv .1 .size, c .before .byte-at2 .ensures, row, c .before .before .before .before .before .before .before .before .pre .0 .few)
 
 loop-less : tie.Need-loop-less Inv-loop μ-loop
 loop-less c = search needs
 
 loop-again : tie.Need-loop-again Inv-loop μ-loop
-loop-again c = (omega arith, marks-more _ _ (omega arith) (c .before .before .loop .inv .1) (bool-byte _ ∙ c .send-passes .ensures))
+loop-again c = let at = c .before .before .before .before .before .before .before .before .pre .1 .1 .rows (c .before .before .before .loop .i) (omega (arith, c .before .before .before .before .byte-at .ensures)) in
+    (omega arith, fails-more (now (c .before .before .before .before .before .before .before .before .args .sends)) _ _ (c .before .byte-at2 .ensures) (omega (arith, c .before .byte-at2 .ensures, at .0, c .before .before .before .before .before .before .before .before .pre .0 .few)) (bool-byte _ ∙ c .send-passes .ensures) (c .before .before .before .loop .inv .1))
 
 returns : tie.Need-returns Inv-loop μ-loop
-returns c = let q : c .before .loop .k ≡ c .before .before .before .args .rows = omega arith in rw q at (c .before .loop .inv .1)
+returns c = fails-all _ (omega (arith, c .before .before .byte-at .ensures)) (c .before .before .before .before .before .before .pre .1 .1) (λ q l h. send-other _ _ _ q l h) (c .before .loop .inv .1)
 
 pub passing-sends-spec : {M : Type 1} → statement M
 passing-sends-spec =
@@ -55,13 +65,16 @@ passing-sends-spec =
     (tie.spec
     Inv-loop
     μ-loop
-    array-write-marks
+    byte-at-requires
     loop-holds
+    add-i
+    cast-byte-at
+    byte-at-requires-2
     send-passes-requires
     cast-pass
-    add-k
-    cast-i
-    array-write-marks-2
+    cast-j
+    add-j
+    array-write-marks
     loop-less
     loop-again
     returns)

@@ -1,10 +1,10 @@
 -- `send_passes` meets its contract: the channels of a send row pass exactly if its channel set lies in the set of those that pass.
 use mathlib.Core.Path.{_∙_}
-use borrow.Author.Needs.{needs}
 use Rattle.program.specs.Maybe.{when}
 use Rattle.channel_asks.specs.Channels.{sendTest}
 use Rattle.forms.proofs.Forms.{kinds, but, send-at, no-send}
 use Rattle.channel_asks.proofs.Channels.{sent}
+use borrow.Author.Needs.{needs}
 use Rattle.channel_asks.proofs.send_passes.Statement.{statement}
 use Rattle.channel_asks.proofs.send_passes.Tie as tie
 
@@ -35,11 +35,8 @@ flow-lies-requires c κs = search needs
 
 returns-2 : tie.Need-returns-2
 unfolding sendTest when
-returns-2 c =
-    let message = c .before .before .before .before in
-    let send = message .before .before in
-    rw (send-at _ _ (send .before .before .form-at .ensures), send .channel .given .1)
-    (c .flow-lies .ensures ∙ sent _ _ _ _ _ _ _ _ (message .flow-set .ensures) (c .before .before .before .send-demand .ensures) (c .before .before .passing .ensures))
+returns-2 c = rw (send-at _ _ (c .before .before .before .before .before .before .before .before .form-at .ensures), c .before .before .before .before .before .before .channel .given .1)
+    (c .flow-lies .ensures ∙ sent _ _ _ _ _ _ _ _ (c .before .before .before .before .flow-set .ensures) (c .before .before .before .send-demand .ensures) (c .before .before .passing .ensures))
 
 pub send-passes-spec : {M : Type 1} → statement M
 send-passes-spec =
