@@ -18,32 +18,33 @@ use Rattle.calls.specs.declared.JudgeAnswer.{JudgeAnswer}
 use Rattle.calls.specs.Layout.{wordOf, decodeClaims}
 use Rattle.calls.proofs.Codec.Sparse.{either}
 use Rattle.store.proofs.Claims.{claimsOn, claims-next}
-use Rattle.claims.specs.Claims.{claimsJudged}
+use Rattle.claims.specs.declared.Held.{Held}
+use Rattle.claims.specs.Claims.{claimsHeld, judgedAt}
 
 -- ---- one claim more
 
-module _ (ok : Claim → Bool) (s : Bytes) (base line held : ℕ) where
-  abbrev judgedFrom : ℕ → ℕ → JudgeAnswer
-  judgedFrom held c = claimsJudged ok line held (claimsOn s base c)
+module _ (ok : Claim → Bool) (s : Bytes) (base held : ℕ) where
+  abbrev heldFrom : ℕ → ℕ → Held
+  heldFrom held c = claimsHeld ok held (claimsOn s base c)
 
-  pub judged-start : claimsJudged ok line held (claimsOn s base 0) ≡ claimsJudged ok line held (decodeClaims 0 (take rowLimit (drop base s)))
-  judged-start = rw add-zero
+  pub held-start : claimsHeld ok held (claimsOn s base 0) ≡ claimsHeld ok held (decodeClaims 0 (take rowLimit (drop base s)))
+  held-start = rw add-zero
 
-  pub judged-end : (c : ℕ) → rowLimit ≤ c → judgedFrom held c ≡ JudgeAnswer.Accepted held
-  unfolding decodeClaims claimsJudged
-  judged-end c l = let q : rowLimit - c ≡ 0 = omega arith in rw q
+  pub held-end : (c : ℕ) → rowLimit ≤ c → heldFrom held c ≡ Held.All held
+  unfolding decodeClaims claimsHeld
+  held-end c l = let q : rowLimit - c ≡ 0 = omega arith in rw q
 
   module _ (c : ℕ) (l : c < rowLimit) {code : ℕ} (e : code ≡ byteAt s (base + c)) where
-    pub judged-none : code ≡ 0 → judgedFrom held c ≡ judgedFrom held (c + 1)
-    judged-none z = rw (claims-next s base c l, ← e, z)
+    pub held-none : code ≡ 0 → heldFrom held c ≡ heldFrom held (c + 1)
+    held-none z = rw (claims-next s base c l, ← e, z)
 
-    pub judged-holds : (code ≡ 0 → ⊥) → ok (record { channel = c; word = wordOf code }) ≡ true → judgedFrom held c ≡ judgedFrom (held + 1) (c + 1)
-    unfolding claimsJudged
-    judged-holds z h = rw (claims-next s base c l, ← e, ne-eqb code 0 z, h)
+    pub held-holds : (code ≡ 0 → ⊥) → ok (record { channel = c; word = wordOf code }) ≡ true → heldFrom held c ≡ heldFrom (held + 1) (c + 1)
+    unfolding claimsHeld
+    held-holds z h = rw (claims-next s base c l, ← e, ne-eqb code 0 z, h)
 
-    pub judged-fails : (code ≡ 0 → ⊥) → ok (record { channel = c; word = wordOf code }) ≡ false → judgedFrom held c ≡ JudgeAnswer.Refused (refusal ClaimFails (line + held))
-    unfolding claimsJudged
-    judged-fails z h = rw (claims-next s base c l, ← e, ne-eqb code 0 z, h)
+    pub held-fails : (code ≡ 0 → ⊥) → ok (record { channel = c; word = wordOf code }) ≡ false → heldFrom held c ≡ Held.Until held
+    unfolding claimsHeld
+    held-fails z h = rw (claims-next s base c l, ← e, ne-eqb code 0 z, h)
 
 -- ---- the first that fails
 
@@ -51,8 +52,8 @@ unfoldable pub answerOf : ℕ → Option ℕ → JudgeAnswer
 answerOf count none = JudgeAnswer.Accepted count
 answerOf count (some line) = JudgeAnswer.Refused (refusal ClaimFails line)
 
-judged-first : (ok : Claim → Bool) (line held : ℕ) (ks : List Claim) → claimsJudged ok line held ks ≡ answerOf (held + length ks) (firstFailing ok (line + held) ks)
-unfolding claimsJudged firstFailing answerOf
+judged-first : (ok : Claim → Bool) (line held : ℕ) (ks : List Claim) → judgedAt line (claimsHeld ok held ks) ≡ answerOf (held + length ks) (firstFailing ok (line + held) ks)
+unfolding claimsHeld judgedAt firstFailing answerOf
 judged-first ok line held [] = ap JudgeAnswer.Accepted (sym (add-zero held))
 judged-first ok line held (k ∷ ks) =
     let q : held + 1 + length ks ≡ held + suc (length ks) = omega arith in
@@ -61,7 +62,7 @@ judged-first ok line held (k ∷ ks) =
     (λ e. rw (e, firstFailing) (rw (q, r) at (judged-first ok line (held + 1) ks)))
     (λ e. rw (e, firstFailing))
 
-pub judged-is : (ok : Claim → Bool) (line : ℕ) (ks : List Claim) → claimsJudged ok line 0 ks ≡ answerOf (length ks) (firstFailing ok line ks)
+pub judged-is : (ok : Claim → Bool) (line : ℕ) (ks : List Claim) → judgedAt line (claimsHeld ok 0 ks) ≡ answerOf (length ks) (firstFailing ok line ks)
 judged-is ok line ks =
     let q : 0 + length ks ≡ length ks = omega arith in
     let r : line + 0 ≡ line = omega arith in

@@ -14,6 +14,7 @@ use Rattle.format.specs.Document.{Claim}
 use Rattle.calls.specs.declared.JudgeAnswer.{JudgeAnswer}
 use Rattle.calls.specs.Layout.{claimsStart, decodeClaims}
 use Rattle.verdicts.specs.Words.{wordIn}
+use Rattle.claims.specs.declared.Held.{Held}
 
 -- what a claim says of a program with its table
 unfoldable pub claimIn : Program → Table → Claim → Bool
@@ -23,7 +24,16 @@ claimIn p flow k = wordIn p flow (k .channel) (k .word)
 abbrev pub storeClaims : Bytes → List Claim
 storeClaims s = decodeClaims 0 (take rowLimit (drop claimsStart s))
 
--- claims that hold are counted, and the first that fails is refused at its line
-unfoldable pub claimsJudged : (Claim → Bool) → ℕ → ℕ → List Claim → JudgeAnswer
-claimsJudged ok line held [] = JudgeAnswer.Accepted held
-claimsJudged ok line held (k ∷ ks) = pick (ok k) (claimsJudged ok line (held + 1) ks) (JudgeAnswer.Refused (refusal ClaimFails (line + held)))
+-- claims that hold are counted up to the first that fails
+unfoldable pub claimsHeld : (Claim → Bool) → ℕ → List Claim → Held
+claimsHeld ok held [] = Held.All held
+claimsHeld ok held (k ∷ ks) = pick (ok k) (claimsHeld ok (held + 1) ks) (Held.Until held)
+
+unfoldable pub holding : Held → ℕ
+holding (Held.All k) = k
+holding (Held.Until k) = k
+
+-- what judge answers: their count, or 11 at the line of the first that fails, where the first of all has a line
+unfoldable pub judgedAt : ℕ → Held → JudgeAnswer
+judgedAt line (Held.All k) = JudgeAnswer.Accepted k
+judgedAt line (Held.Until k) = JudgeAnswer.Refused (refusal ClaimFails (line + k))

@@ -1,26 +1,28 @@
 // The claims of a store, judged in turn over a grid of which rows reach which.
-use calls::JudgeAnswer;
 use claim_words::word_of;
-use format::Reason;
-use format::Refusal;
 use row_lists::rows_of_kind;
 use store::Store;
 ghost use mathlib.Core.Path.{_≡_};
 ghost use Prim.Native.Nat.{_≤_};
 ghost use lib.ListN.{length};
 ghost use Rattle.program.specs.Verdict.{reach};
-ghost use Rattle.format.specs.Limits.{rowLimit, lineLimit};
-ghost use Rattle.calls.specs.Layout.{storeSize};
+ghost use Rattle.format.specs.Limits.{rowLimit};
 ghost use Rattle.store.specs.Rows.{storeProgram};
 ghost use Rattle.tables.specs.Tables.{storeFlow};
 ghost use Rattle.grids.specs.Grid.{gridSize, Shows};
-ghost use Rattle.claims.specs.Claims.{claimIn, storeClaims, claimsJudged};
+ghost use Rattle.claims.specs.Claims.{claimIn, storeClaims, claimsHeld, holding};
 
-// The claims in turn, the first of which has a line: 11 at the line of the first that fails, or their count.
-pub fn judge_claims(store: &[u8], rows: u8, grid: &[u8], line: usize) -> JudgeAnswer
-    requires { ⌜ (storeSize ≤ length (now store)) × (rows ≤ rowLimit) × (gridSize ≤ length (now grid)) × (line ≤ lineLimit) ⌝ }
+// How the claims fare: how many there are, if all hold, or how many hold before the first that fails.
+pub enum Held {
+    All(usize),
+    Until(usize),
+}
+
+// The claims in turn.
+pub fn judge_claims(store: &[u8], rows: u8, grid: &[u8]) -> Held
+    requires { ⌜ (rows ≤ rowLimit) × (gridSize ≤ length (now grid)) ⌝ }
     requires { ⌜ Shows (reach (storeProgram rows (now store)) (storeFlow (now store))) (now grid) ⌝ }
-    ensures { λ a. ⌜ (let bytes = now (store .entry) in a ≡ claimsJudged (claimIn (storeProgram rows bytes) (storeFlow bytes)) line 0 (storeClaims bytes)) ⌝ }
+    ensures { λ a. ⌜ (let bytes = now (store .entry) in (a ≡ claimsHeld (claimIn (storeProgram rows bytes) (storeFlow bytes)) 0 (storeClaims bytes)) × (holding a ≤ rowLimit)) ⌝ }
 {
     let comes = walks::reached_rows(grid, rows);
     let sends = rows_of_kind(store, rows, 4);
@@ -52,11 +54,7 @@ pub fn judge_claims(store: &[u8], rows: u8, grid: &[u8], line: usize) -> JudgeAn
             held += 1;
             continue;
         }
-        let fails = line + held;
-        return JudgeAnswer::Refused(Refusal {
-            reason: Reason::ClaimFails,
-            line: fails,
-        });
+        return Held::Until(held);
     }
-    JudgeAnswer::Accepted(held)
+    Held::All(held)
 }

@@ -33,7 +33,8 @@ use Rattle.store.specs.Document.{storeDocument}
 use Rattle.store.proofs.Document.{claims-are, claim-line, rows-decode, flow-is, comm-is, document-is}
 use Rattle.tables.specs.Tables.{storeFlow, storeComm}
 use Rattle.verdicts.specs.Words.{wordIn}
-use Rattle.claims.specs.Claims.{claimIn, claimsJudged}
+use Rattle.claims.specs.declared.Held.{Held}
+use Rattle.claims.specs.Claims.{claimIn, claimsHeld, judgedAt}
 use Rattle.claims.proofs.Claiming.{answerOf, judged-is}
 
 -- ---- the store's document
@@ -119,7 +120,7 @@ module _ (n : ℕ) (s : Bytes) (rows : n ≡ countRows rowLimit s) where
     answer-is none = refl
     answer-is (some line) = refl
 
-    claims-same : claimsJudged (claimIn (storeProgram n s) (storeFlow s)) (claimLine (decode s)) 0 (decodeClaims 0 (take rowLimit (drop claimsStart s)))
+    claims-same : judgedAt (claimLine (decode s)) (claimsHeld (claimIn (storeProgram n s) (storeFlow s)) 0 (decodeClaims 0 (take rowLimit (drop claimsStart s))))
         ≡ judgeAnswered (judgeClaims (decode s) (failingClaim (decode s) (reaches (decode s))))
     unfolding failingClaim
     claims-same =
@@ -131,9 +132,8 @@ module _ (n : ℕ) (s : Bytes) (rows : n ≡ countRows rowLimit s) where
       unfolding judgeDocument judgeAnswered
       judge-refused l = rw (flow-refused e l)
 
-      pub judge-goes : n ≤ m → {a : JudgeAnswer} {line : ℕ} → line ≡ claimLine (decode s)
-          → a ≡ claimsJudged (claimIn (storeProgram n s) (storeFlow s)) line 0 (decodeClaims 0 (take rowLimit (drop claimsStart s)))
-          → a ≡ judgeAnswered (judgeDocument (decode s))
+      pub judge-goes : n ≤ m → {a : JudgeAnswer} {held : Held} → held ≡ claimsHeld (claimIn (storeProgram n s) (storeFlow s)) 0 (decodeClaims 0 (take rowLimit (drop claimsStart s)))
+          → a ≡ judgedAt (claimLine (decode s)) held → a ≡ judgeAnswered (judgeDocument (decode s))
       unfolding judgeDocument
       judge-goes l q h = h ∙ rw (q, flow-passed e l) claims-same
 

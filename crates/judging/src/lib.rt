@@ -2,6 +2,9 @@
 use calls::JudgeAnswer;
 use calls::VerdictAnswer;
 use calls::VerdictStatus;
+use claims::Held;
+use format::Reason;
+use format::Refusal;
 use grids::GRID;
 use judge_answers::flow_refusal;
 use judge_answers::no_verdict;
@@ -17,6 +20,7 @@ ghost use Rattle.calls.specs.Canonical.{countRows};
 ghost use Rattle.calls.specs.Judging.{judgeDocument};
 ghost use Rattle.calls.specs.Calls.{judgeAnswered, verdictGiven, verdictOf};
 ghost use Rattle.grids.specs.Grid.{gridSize};
+ghost use Rattle.claims.specs.Claims.{holding, judgedAt};
 ghost use Rattle.judging.specs.Judged.{Judged};
 
 // The line of the first claim in the text that write would give.
@@ -32,6 +36,26 @@ fn claim_line(store: &[u8], rows: u8) -> usize
     behind + comms
 }
 
+// What judge answers of the claims: their count, or 11 at the line of the first that fails. Only then the lines before it are counted.
+fn claims_answer(store: &[u8], rows: u8, held: Held) -> JudgeAnswer
+    requires { ⌜ length (now store) ≡ storeSize ⌝ }
+    requires { ⌜ rows ≡ countRows rowLimit (now store) ⌝ }
+    requires { ⌜ holding held ≤ rowLimit ⌝ }
+    ensures { λ a. ⌜ a ≡ judgedAt (claimLine (decode (now (store .entry)))) held ⌝ }
+{
+    match held {
+        Held::All(count) => JudgeAnswer::Accepted(count),
+        Held::Until(count) => {
+            let line = claim_line(store, rows);
+            let fails = line + count;
+            JudgeAnswer::Refused(Refusal {
+                reason: Reason::ClaimFails,
+                line: fails,
+            })
+        }
+    }
+}
+
 // Judges the store. Where it is accepted, the grid tells which rows reach which.
 pub fn judge_store(store: &[u8], rows: u8, grid: &mut [u8]) -> JudgeAnswer
     requires { ⌜ length (now store) ≡ storeSize ⌝ }
@@ -44,8 +68,8 @@ pub fn judge_store(store: &[u8], rows: u8, grid: &mut [u8]) -> JudgeAnswer
         return JudgeAnswer::Refused(flow_refusal(row));
     }
     reach::fill_reach(store, rows, grid);
-    let line = claim_line(store, rows);
-    claims::judge_claims(store, rows, grid, line)
+    let held = claims::judge_claims(store, rows, grid);
+    claims_answer(store, rows, held)
 }
 
 // Judges the store, with a grid of its own.

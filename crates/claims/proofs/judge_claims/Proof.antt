@@ -8,19 +8,19 @@ use Rattle.store.specs.Rows.{storeProgram}
 use Rattle.tables.specs.Tables.{storeFlow}
 use Rattle.store.proofs.Claims.{claimsOn}
 use Rattle.verdicts.specs.Ready.{Ready}
-use Rattle.claims.specs.Claims.{claimIn, storeClaims, claimsJudged}
-use Rattle.claims.proofs.Claiming.{judged-start, judged-none, judged-holds, judged-fails, judged-end}
+use Rattle.claims.specs.Claims.{claimIn, storeClaims, claimsHeld, holding}
+use Rattle.claims.proofs.Claiming.{held-start, held-none, held-holds, held-fails, held-end}
 use borrow.Author.Needs.{needs}
 use Rattle.claims.proofs.judge_claims.Statement.{statement}
 use Rattle.claims.proofs.judge_claims.Tie as tie
 
 abbrev Inv-loop : tie.InvT-loop
-Inv-loop store rows grid line comes sends receives syncs spawns held₀ c₀ held c =
+Inv-loop store rows grid comes sends receives syncs spawns held₀ c₀ held c =
     let ok = claimIn (storeProgram rows store) (storeFlow store) in
-    (c ≤ rowLimit) × (held ≤ c) × (claimsJudged ok line held (claimsOn store claimsStart c) ≡ claimsJudged ok line 0 (storeClaims store)) × Ready rows store grid comes sends receives syncs spawns
+    (c ≤ rowLimit) × (held ≤ c) × (claimsHeld ok held (claimsOn store claimsStart c) ≡ claimsHeld ok 0 (storeClaims store)) × Ready rows store grid comes sends receives syncs spawns
 
 abbrev μ-loop : tie.MeasureT-loop
-μ-loop store rows grid line comes sends receives syncs spawns held₀ c₀ held c = rowLimit - c
+μ-loop store rows grid comes sends receives syncs spawns held₀ c₀ held c = rowLimit - c
 
 reached-rows-requires : tie.Need-reached-rows-requires Inv-loop μ-loop
 reached-rows-requires c κs = search needs
@@ -38,10 +38,10 @@ rows-of-kind-requires-4 : tie.Need-rows-of-kind-requires-4 Inv-loop μ-loop
 rows-of-kind-requires-4 c κs = search needs
 
 loop-holds : tie.Need-loop-holds Inv-loop μ-loop
-loop-holds c = (omega arith, omega arith, judged-start _ (c .before .before .before .before .before .before .before .args .store .now) claimsStart _ _,
+loop-holds c = (omega arith, omega arith, held-start _ (c .before .before .before .before .before .before .before .args .store .now) claimsStart _,
     record {
-      few = c .before .before .before .before .before .before .before .pre .0 .1;
-      room = c .before .before .before .before .before .before .before .pre .0 .2;
+      few = c .before .before .before .before .before .before .before .pre .0 .0;
+      room = c .before .before .before .before .before .before .before .pre .0 .1;
       shows = c .before .before .before .before .before .before .before .pre .1;
       reached = c .before .before .before .before .reached-rows .ensures;
       sending = c .before .before .before .rows-of-kind .ensures;
@@ -66,7 +66,7 @@ loop-less : tie.Need-loop-less Inv-loop μ-loop
 loop-less c = search needs
 
 loop-again : tie.Need-loop-again Inv-loop μ-loop
-loop-again c = (omega arith, omega arith, sym (judged-none _ _ _ _ _ _ (c .before .before .loop-test .taken) (c .before .byte-at .ensures) (c .if1 .taken)) ∙ c .before .before .before .loop .inv .2, c .before .before .before .loop .inv .3)
+loop-again c = (omega arith, omega arith, sym (held-none _ _ _ _ _ (c .before .before .loop-test .taken) (c .before .byte-at .ensures) (c .if1 .taken)) ∙ c .before .before .before .loop .inv .2, c .before .before .before .loop .inv .3)
 
 word-of-requires : tie.Need-word-of-requires Inv-loop μ-loop
 word-of-requires c κs = search needs
@@ -98,20 +98,18 @@ loop-less-2 c = search needs
 loop-again-2 : tie.Need-loop-again-2 Inv-loop μ-loop
 unfolding claimIn
 loop-again-2 c = let holds = sym (rw (c .before .before .before .before .before .before .before .word-of .ensures) at (c .before .word-holds .ensures)) ∙ c .if2 .taken in
-    let judged = judged-holds _ _ _ _ _ _ (c .before .before .before .before .before .before .before .before .before .before .loop-test .taken) (c .before .before .before .before .before .before .before .before .before .byte-at .ensures) (c .before .before .before .before .before .before .before .before .if1 .left) holds in
-    (omega arith, omega arith, sym judged ∙ c .before .before .before .before .before .before .before .before .before .before .before .loop .inv .2, c .before .before .before .before .before .before .before .before .before .before .before .loop .inv .3)
-
-add-fails : tie.Need-add-fails Inv-loop μ-loop
-add-fails c = omega (arith, c .before .before .before .before .before .before .before .before .before .before .before .before .before .before .before .before .before .before .before .pre .0 .3, c .before .before .before .before .before .before .before .before .before .before .before .loop .inv .1, c .before .before .before .before .before .before .before .before .before .before .before .loop .inv .0)
+    let more = held-holds _ _ _ _ _ (c .before .before .before .before .before .before .before .before .before .before .loop-test .taken) (c .before .before .before .before .before .before .before .before .before .byte-at .ensures) (c .before .before .before .before .before .before .before .before .if1 .left) holds in
+    (omega arith, omega arith, sym more ∙ c .before .before .before .before .before .before .before .before .before .before .before .loop .inv .2, c .before .before .before .before .before .before .before .before .before .before .before .loop .inv .3)
 
 returns : tie.Need-returns Inv-loop μ-loop
-unfolding claimIn
+unfolding claimIn holding
 returns c = let fails = sym (rw (c .before .before .before .before .before .before .before .word-of .ensures) at (c .before .word-holds .ensures)) ∙ c .if2 .left in
-    let judged = judged-fails _ _ _ _ _ _ (c .before .before .before .before .before .before .before .before .before .before .loop-test .taken) (c .before .before .before .before .before .before .before .before .before .byte-at .ensures) (c .before .before .before .before .before .before .before .before .if1 .left) fails in
-    sym judged ∙ c .before .before .before .before .before .before .before .before .before .before .before .loop .inv .2
+    let first = held-fails _ _ _ _ _ (c .before .before .before .before .before .before .before .before .before .before .loop-test .taken) (c .before .before .before .before .before .before .before .before .before .byte-at .ensures) (c .before .before .before .before .before .before .before .before .if1 .left) fails in
+    (sym first ∙ c .before .before .before .before .before .before .before .before .before .before .before .loop .inv .2, omega arith)
 
 returns-2 : tie.Need-returns-2 Inv-loop μ-loop
-returns-2 c = sym (judged-end _ _ _ _ _ _ (c .loop-test .left)) ∙ c .before .loop .inv .2
+unfolding holding
+returns-2 c = (sym (held-end _ _ _ _ _ (c .loop-test .left)) ∙ c .before .loop .inv .2, omega arith)
 
 pub judge-claims-spec : {M : Type 1} → statement M
 judge-claims-spec =
@@ -141,6 +139,5 @@ judge-claims-spec =
     add-held
     loop-less-2
     loop-again-2
-    add-fails
     returns
     returns-2)
