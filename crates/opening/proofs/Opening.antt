@@ -2,12 +2,13 @@
 use Prim.Native.Nat.{ℕ, _≤_, _<_}
 use native.Mathlib.Omega.{arith}
 use mathlib.Core.Bool.{Bool, true, false, not, _&&_}
+use mathlib.Core.List.{[], _∷_}
 use mathlib.Core.Option.{none, some}
 use mathlib.Core.Path.{_≡_, refl, sym, ap, _∙_, subst}
-use lib.ListN.{length, take}
+use lib.ListN.{length, getD, take}
 use lib.Seq.{length-take-le}
 use lib.Dec.{ltb, eqb}
-use borrow.Author.Tests.{lt-ltb, le-ltb, ltb-false}
+use borrow.Author.Tests.{lt-ltb, le-ltb, ltb-false, ne-eqb}
 use Rattle.program.specs.Each.{every}
 use Rattle.format.specs.declared.Refusal.{Refusal}
 use Rattle.format.specs.declared.Reason.the-variants.{StoreTooShort, StoreEmpty, StoreUnsound}
@@ -33,17 +34,30 @@ module _ (s : Bytes) (size : length s ≡ storeSize) where
   unfolding canonical
   tests-are n e = rw e refl
 
-  pub empty-refused : every (λ x. eqb x 0) s ≡ true → OpenedIs (openedFixed s) s (Opened.Refused (refusal StoreEmpty 0))
-  unfolding openedFixed isEmpty
+  -- 21 is not given where the first byte is not 0
+  pub first-byte : (getD s 0 0 ≡ 0 → ⊥) → false ≡ isEmpty s
+  unfolding isEmpty every
+  first-byte h = go s h
+    where
+      go : (xs : Bytes) → (getD xs 0 0 ≡ 0 → ⊥) → false ≡ every (λ x. eqb x 0) xs
+      go [] f = absurd (f refl)
+      go (x ∷ xs) f = rw (ne-eqb x 0 f)
+
+  pub all-zeros : {b : Bool} → b ≡ every (λ x. eqb x 0) s → b ≡ isEmpty s
+  unfolding isEmpty
+  all-zeros e = e
+
+  pub empty-refused : isEmpty s ≡ true → OpenedIs (openedFixed s) s (Opened.Refused (refusal StoreEmpty 0))
+  unfolding openedFixed
   empty-refused e = rw (e, openedFixed) refl
 
   -- 22 is given where the tests fail
-  pub unsound-refused : every (λ x. eqb x 0) s ≡ false → unsound s ≡ true → OpenedIs (openedFixed s) s (Opened.Refused (refusal StoreUnsound 0))
-  unfolding openedFixed isEmpty
+  pub unsound-refused : isEmpty s ≡ false → unsound s ≡ true → OpenedIs (openedFixed s) s (Opened.Refused (refusal StoreUnsound 0))
+  unfolding openedFixed
   unsound-refused e u = rw (e, u, openedFixed) refl
 
-  pub store-opens : (n : ℕ) → n ≡ countRows rowLimit s → every (λ x. eqb x 0) s ≡ false → unsound s ≡ false → OpenedIs (openedFixed s) s (Opened.Rows n)
-  unfolding openedFixed isEmpty
+  pub store-opens : (n : ℕ) → n ≡ countRows rowLimit s → isEmpty s ≡ false → unsound s ≡ false → OpenedIs (openedFixed s) s (Opened.Rows n)
+  unfolding openedFixed
   store-opens n e z u = rw (z, u, openedFixed) (record { document-is = refl; answer-is = ap Opened.Rows e })
 
   pub tests-refuse : (n : ℕ) → n ≡ countRows rowLimit s → Tests n ≡ false → true ≡ unsound s

@@ -8,7 +8,7 @@ ghost use Rattle.opening.specs.declared.Opened.{Opened};
 ghost use lib.ListN.{length, take};
 ghost use Rattle.format.specs.Refusals.{refusal};
 ghost use Rattle.calls.specs.Layout.{storeSize};
-ghost use Rattle.calls.specs.Calls.{unsound, openedFixed, opened};
+ghost use Rattle.calls.specs.Calls.{isEmpty, unsound, openedFixed, opened};
 ghost use Rattle.opening.specs.Opening.{OpenedIs};
 
 // The store of a call: how many rows it has, or why it is refused.
@@ -25,6 +25,17 @@ pub fn refuse_store(reason: Reason) -> Opened
         reason: reason,
         line: 0,
     })
+}
+
+// 21: whether every byte is 0. Where the first is not, no other is looked at.
+fn is_empty(fixed: &[u8]) -> bool
+    requires { ⌜ length (now fixed) ≡ storeSize ⌝ }
+    ensures { λ b. ⌜ b ≡ isEmpty (now (fixed .entry)) ⌝ }
+{
+    if fixed[0] != 0 {
+        return false;
+    }
+    byte_tests::all_zero(fixed)
 }
 
 // 22: whether no load leaves these bytes, the length limit set aside.
@@ -47,7 +58,7 @@ fn open_fixed(fixed: &[u8]) -> Opened
     requires { ⌜ length (now fixed) ≡ storeSize ⌝ }
     ensures { λ o. ⌜ OpenedIs (openedFixed (now (fixed .entry))) (now (fixed .entry)) o ⌝ }
 {
-    if byte_tests::all_zero(fixed) {
+    if is_empty(fixed) {
         return refuse_store(Reason::StoreEmpty);
     }
     if is_unsound(fixed) {

@@ -5,14 +5,14 @@ use borrow.Author.Needs.{needs}
 use Rattle.opening.proofs.open_fixed.Statement.{statement}
 use Rattle.opening.proofs.open_fixed.Tie as tie
 
-all-zero-requires : tie.Need-all-zero-requires
-all-zero-requires c κs = search needs
+is-empty-requires : tie.Need-is-empty-requires
+is-empty-requires c κs = search needs
 
 refuse-store-requires : tie.Need-refuse-store-requires
 refuse-store-requires c κs = search needs
 
 returns : tie.Need-returns
-returns c = rw (c .refuse-store .ensures) (empty-refused _ (c .before .before .before .before .pre) (sym (c .before .before .all-zero .ensures) ∙ c .before .if1 .taken))
+returns c = rw (c .refuse-store .ensures) (empty-refused _ (c .before .before .before .before .pre) (sym (c .before .before .is-empty .ensures) ∙ c .before .if1 .taken))
 
 is-unsound-requires : tie.Need-is-unsound-requires
 is-unsound-requires c κs = search needs
@@ -25,9 +25,9 @@ returns-2 c =
     let at-if2 = c .before in
     let at-is-unsound = at-if2 .before in
     let at-if1 = at-is-unsound .before in
-    let at-all-zero = at-if1 .before in
-    let start = at-all-zero .before .before in
-    rw (c .refuse-store2 .ensures) (unsound-refused _ (start .pre) (sym (at-all-zero .all-zero .ensures) ∙ at-if1 .if1 .left) (sym (at-is-unsound .is-unsound .ensures) ∙ at-if2 .if2 .taken))
+    let at-is-empty = at-if1 .before in
+    let start = at-is-empty .before .before in
+    rw (c .refuse-store2 .ensures) (unsound-refused _ (start .pre) (sym (at-is-empty .is-empty .ensures) ∙ at-if1 .if1 .left) (sym (at-is-unsound .is-unsound .ensures) ∙ at-if2 .if2 .taken))
 
 count-rows-requires : tie.Need-count-rows-requires
 count-rows-requires c κs = search needs
@@ -37,15 +37,15 @@ returns-3 c =
     let at-if2 = c .before in
     let at-is-unsound = at-if2 .before in
     let at-if1 = at-is-unsound .before in
-    let at-all-zero = at-if1 .before in
-    let start = at-all-zero .before .before in
-    store-opens _ (start .pre) _ (c .count-rows .ensures .0) (sym (at-all-zero .all-zero .ensures) ∙ at-if1 .if1 .left) (sym (at-is-unsound .is-unsound .ensures) ∙ at-if2 .if2 .left)
+    let at-is-empty = at-if1 .before in
+    let start = at-is-empty .before .before in
+    store-opens _ (start .pre) _ (c .count-rows .ensures .0) (sym (at-is-empty .is-empty .ensures) ∙ at-if1 .if1 .left) (sym (at-is-unsound .is-unsound .ensures) ∙ at-if2 .if2 .left)
 
 pub open-fixed-spec : {M : Type 1} → statement M
 open-fixed-spec =
     tie.close
     (tie.spec
-    all-zero-requires
+    is-empty-requires
     refuse-store-requires
     returns
     is-unsound-requires
