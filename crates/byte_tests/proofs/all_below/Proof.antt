@@ -1,31 +1,31 @@
--- `all_below` meets its contract: all bytes pass exactly if none was found that fails and those from position i on pass.
+-- `all_below` meets its contract: all bytes pass exactly if the largest of those before position i and all from there on pass.
 use Prim.Native.Nat.{_≤_, _-_}
 use mathlib.Core.Bool.{_&&_}
-use mathlib.Core.Path.{_≡_, refl, sym, _∙_}
+use mathlib.Core.Path.{_≡_, sym, refl, _∙_}
 use native.Mathlib.Omega.{arith}
 use lib.ListN.{length, drop}
-use lib.Dec.{ltb, eqb}
+use lib.Dec.{ltb}
 use Rattle.program.specs.Each.{every}
-use Rattle.byte_tests.proofs.Below.{below-goes, below-ends}
+use Rattle.byte_tests.proofs.Below.{below-goes, below-ends, above-none, below-none}
 use borrow.Author.Needs.{needs}
 use Rattle.byte_tests.proofs.all_below.Statement.{statement}
 use Rattle.byte_tests.proofs.all_below.Tie as tie
 
 abbrev Inv-loop : tie.InvT-loop
-Inv-loop bytes limit found₀ i₀ found i =
-    (i ≤ length bytes) × (eqb found 0 && every (λ x. ltb x limit) (drop i bytes) ≡ every (λ x. ltb x limit) bytes)
+Inv-loop bytes limit most₀ i₀ most i =
+    (i ≤ length bytes) × (ltb most limit && every (λ x. ltb x limit) (drop i bytes) ≡ every (λ x. ltb x limit) bytes)
 
 abbrev μ-loop : tie.MeasureT-loop
-μ-loop bytes limit found₀ i₀ found i = length bytes - i
+μ-loop bytes limit most₀ i₀ most i = length bytes - i
+
+returns : tie.Need-returns Inv-loop μ-loop
+returns c = below-none _ _ (c .if1 .taken)
 
 loop-holds : tie.Need-loop-holds Inv-loop μ-loop
-loop-holds c = (omega arith, refl)
+loop-holds c = (omega arith, rw (above-none _ (c .if1 .left)))
 
-shared-slice-read-beyond : tie.Need-shared-slice-read-beyond Inv-loop μ-loop
-shared-slice-read-beyond c = search needs
-
-beyond-requires : tie.Need-beyond-requires Inv-loop μ-loop
-beyond-requires c κs = search needs
+shared-slice-read-larger : tie.Need-shared-slice-read-larger Inv-loop μ-loop
+shared-slice-read-larger c = search needs
 
 larger-requires : tie.Need-larger-requires Inv-loop μ-loop
 larger-requires c κs = search needs
@@ -37,13 +37,10 @@ loop-less : tie.Need-loop-less Inv-loop μ-loop
 loop-less c = search needs
 
 loop-again : tie.Need-loop-again Inv-loop μ-loop
-loop-again c = (omega arith, below-goes _ _ _ _ (c .before .before .before .loop-test .taken) (c .before .beyond .ensures) (c .larger .ensures) ∙ c .before .before .before .before .loop .inv .1)
+loop-again c = (omega arith, below-goes _ _ _ _ (c .before .before .loop-test .taken) (c .larger .ensures) ∙ c .before .before .before .loop .inv .1)
 
-returns : tie.Need-returns Inv-loop μ-loop
-returns c =
-    let at-loop = c .before in
-    let start = at-loop .before .before in
-    sym (below-ends (start .args .bytes .now) (start .args .limit) (at-loop .loop .i) (at-loop .loop .found) (c .loop-test .left) (at-loop .loop .inv .0)) ∙ at-loop .loop .inv .1
+returns-2 : tie.Need-returns-2 Inv-loop μ-loop
+returns-2 c = sym (below-ends (c .before .before .before .before .args .bytes .now) (c .before .before .before .before .args .limit) (c .before .loop .i) (c .before .loop .most) (c .loop-test .left) (c .before .loop .inv .0)) ∙ c .before .loop .inv .1
 
 pub all-below-spec : {M : Type 1} → statement M
 all-below-spec =
@@ -51,11 +48,11 @@ all-below-spec =
     (tie.spec
     Inv-loop
     μ-loop
+    returns
     loop-holds
-    shared-slice-read-beyond
-    beyond-requires
+    shared-slice-read-larger
     larger-requires
     add-i
     loop-less
     loop-again
-    returns)
+    returns-2)
