@@ -9,7 +9,6 @@ use Rattle.format.specs.Text.{Bytes}
 use Rattle.format.specs.Structure.{boundEarlier, binderFault}
 use Rattle.store.specs.Rows.{storeRow, storeProgram}
 use Rattle.store.proofs.Laws.{row-at-program}
-use Rattle.seen.specs.declared.Seen.{Seen}
 use Rattle.seen.specs.Flags.{flag}
 use Rattle.seen.specs.Seen.{Marks, Adds}
 use Rattle.seen.proofs.Smallest.{rows-before, again-row}
@@ -20,6 +19,6 @@ module _ (n : ℕ) (s : Bytes) (r : ℕ) (h : r < n) where
   binder-fault-is = rw (rows-before n r s (omega arith), row-at-program n s r h)
 
   -- the same by what the loop has at the row: what was seen before it and with it
-  module _ (a b : Seen) (ns : List ℕ) (adds : Adds a ns b) (fresh : a .again ≡ 0) where
-    pub binder-row : ns ≡ binders (storeRow s r) → Marks (collect binders (storeProgram r s)) (a .marks) → b .again ≡ flag (binderFault (storeProgram n s) r)
-    binder-row e m = rw binder-fault-is (again-row binders r s a b ns adds e m fresh)
+  pub binder-row : (a b : Bytes) (ns : List ℕ) {again : ℕ} → Adds a ns b again → ns ≡ binders (storeRow s r) → Marks (collect binders (storeProgram r s)) a
+      → again ≡ flag (binderFault (storeProgram n s) r)
+  binder-row a b ns adds e m = rw binder-fault-is (again-row binders r s a b ns adds e m)

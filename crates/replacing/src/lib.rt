@@ -20,8 +20,7 @@ pub fn replaceable(store: &[u8], name: usize, unit: bool, list: &[u8], set: &mut
         Opened::Refused(refusal) => Opened::Refused(refusal),
         Opened::Rows(rows) => {
             let fixed = &store[..Store::SIZE];
-            let names = binders::bound(fixed, rows);
-            let marks = names.marks;
+            let marks = binders::bound(fixed, rows);
             if read_text::byte_at(&marks, name) == 0 {
                 return refuse_store(Reason::NotBound);
             }

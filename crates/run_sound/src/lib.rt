@@ -162,8 +162,7 @@ pub fn sound_run(store: &[u8], rows: u8, run: &[u8], records: Records) -> bool
     if !within_limits(n) {
         return false;
     }
-    let names = bound(store, rows);
-    let marks = names.marks;
+    let marks = bound(store, rows);
     if !sound_cells(&marks, rows, run) {
         return false;
     }

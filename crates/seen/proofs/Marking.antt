@@ -14,7 +14,6 @@ use Rattle.program.proofs.Test.{eqb-same}
 use Rattle.program.proofs.Each.{elem-append}
 use Rattle.format.specs.Text.{Bytes, byteAt}
 use Rattle.format.specs.Structure.{boundEarlier}
-use Rattle.seen.specs.declared.Seen.{Seen}
 use Rattle.seen.specs.Flags.{flag, Tells}
 use Rattle.seen.specs.Seen.{numberCount, Marks, Adds}
 use Rattle.store.proofs.Laws.{zeros-at}
@@ -85,17 +84,24 @@ marks-one marks xs n l h =
 
 -- ---- numbers one after the other
 
-pub adds-none : (a : Seen) → Adds a [] a
+pub adds-none : (a : Bytes) → Adds a [] a 0
 unfolding boundEarlier
-adds-none a = record { marks = λ xs h. rw append-nil h; again = λ xs h. omega arith }
+adds-none a = record { marks = λ xs h. rw append-nil h; again = λ xs h. refl }
 
-pub adds-one : (a b : Seen) (n : ℕ) → n < numberCount → b .marks ≡ set (a .marks) n 1 → b .again ≡ max (a .again) (byteAt (a .marks) n) → Adds a (n ∷ []) b
+pub adds-one : (a : Bytes) (n : ℕ) → n < numberCount → Adds a (n ∷ []) (set a n 1) (byteAt a n)
 unfolding boundEarlier
-adds-one a b n l e q = record { marks = λ xs h. rw e (marks-one (a .marks) xs n l h); again = λ xs h. q ∙ ap (max (a .again)) (h .tells .at n ∙ rw or-false) }
+adds-one a n l = record { marks = λ xs h. marks-one a xs n l h; again = λ xs h. h .tells .at n ∙ rw or-false }
 
-pub adds-then : {a b c : Seen} {ns ms : List ℕ} → Adds a ns b → Adds b ms c → Adds a (ns ++ ms) c
-adds-then {a} {b} {c} {ns} {ms} h k =
+pub adds-then : {a b c : Bytes} {ns ms : List ℕ} {i j k : ℕ} → Adds a ns b i → Adds b ms c j → k ≡ max i j → Adds a (ns ++ ms) c k
+adds-then {a} {b} {c} {ns} {ms} h k e =
     record {
       marks = λ xs m. rw (← append-assoc) (k .marks (xs ++ ns) (h .marks xs m));
-      again = λ xs m. omega (arith, k .again (xs ++ ns) (h .marks xs m), h .again xs m, ap flag (bound-append xs ns ms), flag-or (boundEarlier xs ns) (boundEarlier (xs ++ ns) ms));
+      again = λ xs m. omega (
+        arith,
+        e,
+        k .again (xs ++ ns) (h .marks xs m),
+        h .again xs m,
+        ap flag (bound-append xs ns ms),
+        flag-or (boundEarlier xs ns) (boundEarlier (xs ++ ns) ms),
+      );
     }

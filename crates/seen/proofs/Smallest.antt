@@ -18,7 +18,6 @@ use Rattle.format.specs.Structure.{boundEarlier}
 use Rattle.calls.specs.Layout.{counting}
 use Rattle.store.specs.Rows.{storeRow, storeProgram, rowOr}
 use Rattle.store.proofs.Laws.{program-snoc}
-use Rattle.seen.specs.declared.Seen.{Seen}
 use Rattle.seen.specs.Flags.{flag}
 use Rattle.seen.specs.Seen.{Marks, Adds}
 
@@ -40,14 +39,14 @@ module _ (f : Row → List ℕ) where
   collect-row r s = rw (add-one, program-snoc, collect-append) (ap (λ l. collect f (storeProgram r s) ++ l) (append-nil (f (storeRow s r))))
 
   -- the marks of the first rows, where those of one row more are added
-  pub marks-row : (r : ℕ) (s : Bytes) (a b : Seen) (ns : List ℕ) → Adds a ns b → ns ≡ f (storeRow s r)
-      → Marks (collect f (storeProgram r s)) (a .marks) → Marks (collect f (storeProgram (r + 1) s)) (b .marks)
+  pub marks-row : (r : ℕ) (s a b : Bytes) (ns : List ℕ) {again : ℕ} → Adds a ns b again → ns ≡ f (storeRow s r)
+      → Marks (collect f (storeProgram r s)) a → Marks (collect f (storeProgram (r + 1) s)) b
   marks-row r s a b ns h e m = rw (collect-row r s, ← e) (h .marks _ m)
 
-  -- whether one of a row's numbers was seen again, where none was before
-  pub again-row : (r : ℕ) (s : Bytes) (a b : Seen) (ns : List ℕ) → Adds a ns b → ns ≡ f (storeRow s r)
-      → Marks (collect f (storeProgram r s)) (a .marks) → a .again ≡ 0 → b .again ≡ flag (boundEarlier (collect f (storeProgram r s)) (f (storeRow s r)))
-  again-row r s a b ns h e m q = rw (← e) (h .again _ m ∙ rw q (omega arith))
+  -- whether one of a row's numbers was seen again
+  pub again-row : (r : ℕ) (s a b : Bytes) (ns : List ℕ) {again : ℕ} → Adds a ns b again → ns ≡ f (storeRow s r)
+      → Marks (collect f (storeProgram r s)) a → again ≡ flag (boundEarlier (collect f (storeProgram r s)) (f (storeRow s r)))
+  again-row r s a b ns h e m = rw (← e) (h .again _ m)
 
 -- ---- the smallest row
 

@@ -1,52 +1,41 @@
-// The numbers that were seen so far: a byte for each, 1 where it was seen, and whether one was seen again.
+// Which numbers were seen: a byte for each, 1 where it was seen. The marks are lent, and each step answers whether a number was seen again.
 use byte_order::larger;
 use row_numbers::Few;
 ghost use mathlib.Core.Path.{_≡_};
 ghost use mathlib.Core.List.{[], _∷_};
 ghost use Rattle.row_numbers.specs.Numbers.{numbersOf};
-ghost use Rattle.seen.specs.Seen.{Marks, Adds};
+ghost use Rattle.seen.specs.Seen.{Adds};
 
-pub struct Seen {
-    pub marks: [u8; Seen::NUMBERS],
-    pub again: u8,
-}
+// Every u8 can be seen.
+pub const NUMBERS: usize = 256;
 
-impl Seen {
-    // Every u8 can be seen.
-    pub const NUMBERS: usize = 256;
-
-    pub fn none() -> Seen
-        ensures { λ x. ⌜ Marks [] (x .marks) × (x .again ≡ 0) ⌝ }
-    {
-        Seen {
-            marks: [0; Self::NUMBERS],
-            again: 0,
-        }
-    }
-}
-
-// One number more.
-fn with_number(seen: Seen, n: u8) -> Seen
-    ensures { λ x. ⌜ Adds seen (n ∷ []) x ⌝ }
+// One number more: 1 if it was seen already, else 0.
+fn see(marks: &mut [u8; NUMBERS], n: u8) -> u8
+    ensures { λ again. ⌜ Adds (now (marks .entry)) (n ∷ []) (now (marks .exit)) again ⌝ }
 {
     let i = n as usize;
-    let mut marks = seen.marks;
-    let again = larger(seen.again, marks[i]);
+    let again = marks[i];
     marks[i] = 1;
-    Seen {
-        marks: marks,
-        again: again,
-    }
+    again
 }
 
-// The numbers of a list more, in their order.
-pub fn with_few(seen: Seen, few: Few) -> Seen
-    ensures { λ x. ⌜ Adds seen (numbersOf few) x ⌝ }
+// The numbers of a list more, in their order: 1 if one was seen already, else 0.
+pub fn see_few(marks: &mut [u8; NUMBERS], few: Few) -> u8
+    ensures { λ again. ⌜ Adds (now (marks .entry)) (numbersOf few) (now (marks .exit)) again ⌝ }
 {
     match few {
-        Few::Zero => seen,
-        Few::One(a) => with_number(seen, a),
-        Few::Two(a, b) => with_number(with_number(seen, a), b),
-        Few::Three(a, b, c) => with_number(with_number(with_number(seen, a), b), c),
+        Few::Zero => 0,
+        Few::One(a) => see(marks, a),
+        Few::Two(a, b) => {
+            let first = see(marks, a);
+            let second = see(marks, b);
+            larger(first, second)
+        }
+        Few::Three(a, b, c) => {
+            let first = see(marks, a);
+            let second = see(marks, b);
+            let third = see(marks, c);
+            larger(first, larger(second, third))
+        }
     }
 }

@@ -9,6 +9,7 @@ use borrow.Author.Tests.{lt-ltb, le-ltb}
 use Rattle.program.specs.Test.{least}
 use Rattle.program.specs.Maybe.{_>>=_, _<|>_}
 use Rattle.program.proofs.Test.{Least, none-passes, smallest, least-is}
+use Rattle.format.specs.declared.Refusal.{Refusal}
 use Rattle.format.specs.declared.Reason.the-variants.{WrongPointer, BoundTwice, OutOfScope, NotAllowed}
 use Rattle.format.specs.Limits.{rowLimit}
 use Rattle.format.specs.Text.{Bytes}
@@ -21,6 +22,9 @@ use Rattle.store.specs.Rows.{storeProgram, rowOr}
 use Rattle.store.proofs.Laws.{program-length}
 use Rattle.store.specs.Document.{storeDocument}
 use Rattle.allowed.specs.Answer.{lineOr}
+use Rattle.structure.specs.declared.Structure.{Structure}
+use Rattle.structure.specs.declared.Structure.the-variants.{Sound, Refused}
+use Rattle.structure.specs.Answer.{treeFault}
 use Rattle.store.proofs.Document.{rows-are}
 
 -- ---- a row, or none
@@ -81,43 +85,64 @@ module _ (d : Document) (l : ℕ) (e : l ≡ lineOr (notAllowed d)) where
       go none p q = p
       go (some k) p q = absurd (omega (arith, line-above d p))
 
--- ---- the first refusal
+-- ---- the first refusal of 6, 7 and 8
 
 module _ (n : ℕ) (s : Bytes) (limit : n ≤ rowLimit) where
-  refusals : structureFault (storeDocument n s)
+  refusals : treeFault (storeProgram n s)
       ≡ ((least n (pointerFault (storeProgram n s)) >>= λ r. some (refusal WrongPointer (rowLine r)))
       <|> (least n (binderFault (storeProgram n s)) >>= λ r. some (refusal BoundTwice (rowLine r)))
-      <|> (scopeLine (storeProgram n s) >>= λ r. some (refusal OutOfScope (rowLine r)))
-      <|> (notAllowed (storeDocument n s) >>= λ line. some (refusal NotAllowed line)))
-  unfolding structureFault
-  refusals = rw (rows-are n s, program-length n s)
+      <|> (scopeLine (storeProgram n s) >>= λ r. some (refusal OutOfScope (rowLine r))))
+  unfolding treeFault
+  refusals = rw (program-length n s)
 
   module _ {m : ℕ} (pointer : m ≡ rowOr (least n (pointerFault (storeProgram n s)))) where
-    pub pointer-refused : m < n → some (refusal WrongPointer (rowLine m)) ≡ structureFault (storeDocument n s)
+    pub pointer-refused : m < n → some (refusal WrongPointer (rowLine m)) ≡ treeFault (storeProgram n s)
     unfolding _>>=_ _<|>_
     pointer-refused l = rw (refusals, row-found n _ m limit pointer l)
 
     module _ (no-pointer : n ≤ m) {b : ℕ} (binder : b ≡ rowOr (least n (binderFault (storeProgram n s)))) where
-      pub binder-refused : b < n → some (refusal BoundTwice (rowLine b)) ≡ structureFault (storeDocument n s)
+      pub binder-refused : b < n → some (refusal BoundTwice (rowLine b)) ≡ treeFault (storeProgram n s)
       unfolding _>>=_ _<|>_
       binder-refused l = rw (refusals, row-missing n _ m limit pointer no-pointer, row-found n _ b limit binder l)
 
       module _ (no-binder : n ≤ b) {c : ℕ} (scope : c ≡ scopeFault (storeProgram n s)) where
-        pub scope-refused : c < n → some (refusal OutOfScope (rowLine c)) ≡ structureFault (storeDocument n s)
+        pub scope-refused : c < n → some (refusal OutOfScope (rowLine c)) ≡ treeFault (storeProgram n s)
         unfolding _>>=_ _<|>_ scopeLine
         scope-refused l =
             rw (refusals, row-missing n _ m limit pointer no-pointer, row-missing n _ b limit binder no-binder, program-length n s, ← scope, lt-ltb c n l)
 
-        module _ (in-scope : n ≤ c) {l : ℕ} (line : l ≡ lineOr (notAllowed (storeDocument n s))) where
-          past-scope : structureFault (storeDocument n s) ≡ (notAllowed (storeDocument n s) >>= λ line. some (refusal NotAllowed line))
-          unfolding _>>=_ _<|>_ scopeLine
-          past-scope =
-              rw (refusals, row-missing n _ m limit pointer no-pointer, row-missing n _ b limit binder no-binder, program-length n s, ← scope, le-ltb c n in-scope)
+        pub tree-sound : n ≤ c → none ≡ treeFault (storeProgram n s)
+        unfolding _>>=_ _<|>_ scopeLine
+        tree-sound l =
+            rw (refusals, row-missing n _ m limit pointer no-pointer, row-missing n _ b limit binder no-binder, program-length n s, ← scope, le-ltb c n l)
 
-          pub line-refused : (l ≡ 0 → ⊥) → some (refusal NotAllowed l) ≡ structureFault (storeDocument n s)
-          unfolding _>>=_
-          line-refused h = rw (past-scope, line-found _ l line h)
+-- an answer is a refusal or none
+pub refused-sound : {A : Type 0} {x : Structure} {f : Refusal} → x ≡ Refused f → x ≡ Sound → A
+refused-sound p q = let z : _≡_ {A = ℕ} 0 1 = cc in absurd (omega arith)
 
-          pub none-refused : l ≡ 0 → none ≡ structureFault (storeDocument n s)
-          unfolding _>>=_
-          none-refused h = rw (past-scope, line-missing _ l line h)
+-- ---- the first refusal of all
+
+or-assoc : {A : Type 0} (a b c d : Option A) → (a <|> b <|> c <|> d) ≡ ((a <|> b <|> c) <|> d)
+unfolding _<|>_
+or-assoc (some x) b c d = refl
+or-assoc none (some x) c d = refl
+or-assoc none none c d = refl
+
+module _ (n : ℕ) (s : Bytes) where
+  -- 6, 7 and 8, then 9
+  pub tree-then : structureFault (storeDocument n s) ≡ (treeFault (storeProgram n s) <|> (notAllowed (storeDocument n s) >>= λ line. some (refusal NotAllowed line)))
+  unfolding structureFault treeFault
+  tree-then = rw (rows-are n s) (or-assoc _ _ _ _)
+
+  pub tree-refused : {f : Refusal} → some f ≡ treeFault (storeProgram n s) → some f ≡ structureFault (storeDocument n s)
+  unfolding _<|>_
+  tree-refused e = rw (tree-then, ← e)
+
+  module _ (sound : none ≡ treeFault (storeProgram n s)) {l : ℕ} (line : l ≡ lineOr (notAllowed (storeDocument n s))) where
+    pub line-refused : (l ≡ 0 → ⊥) → some (refusal NotAllowed l) ≡ structureFault (storeDocument n s)
+    unfolding _<|>_ _>>=_
+    line-refused h = rw (tree-then, ← sound, line-found _ l line h)
+
+    pub none-refused : l ≡ 0 → none ≡ structureFault (storeDocument n s)
+    unfolding _<|>_ _>>=_
+    none-refused h = rw (tree-then, ← sound, line-missing _ l line h)

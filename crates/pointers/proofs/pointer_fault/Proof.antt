@@ -1,129 +1,20 @@
--- The loop's invariant: the marks are those of the rows that the first r rows point at, none was seen again, and no row before r has a fault.
--- Each turn takes one row more, so the loop ends.
-use Prim.Native.Nat.{_≤_, max, _-_}
-use native.Mathlib.Omega.{arith}
-use mathlib.Core.Path.{_≡_, sym, ap, _∙_}
-use borrow.Author.Count.{below-more}
+-- `pointer_fault` meets its contract: rows that are in order have no fault.
+use mathlib.Core.Path.{sym, _∙_}
 use borrow.Author.Needs.{needs}
-use Rattle.program.specs.Program.{pointers}
-use Rattle.program.specs.Each.{collect}
-use Rattle.format.specs.Structure.{pointerFault}
-use Rattle.calls.specs.Layout.{counting}
-use Rattle.store.specs.Rows.{storeProgram}
-use Rattle.seen.specs.Seen.{Marks}
-use Rattle.seen.proofs.Smallest.{Passed, marks-row, first-row, no-row}
-use Rattle.pointers.proofs.Faults.{pointer-row}
-use Rattle.seen.proofs.Marking.{flag-set, flag-clear}
 use Rattle.pointers.proofs.pointer_fault.Statement.{statement}
 use Rattle.pointers.proofs.pointer_fault.Tie as tie
 
-abbrev Inv-loop : tie.InvT-loop
-Inv-loop store rows all seen₀ r₀ seen r =
-    (r ≤ rows) × Marks (collect pointers (storeProgram r store)) (seen .marks) × (seen .again ≡ 0) × Passed (pointerFault (storeProgram rows store)) r
+in-order-requires : tie.Need-in-order-requires
+in-order-requires c κs = search needs
 
-abbrev μ-loop : tie.MeasureT-loop
-μ-loop store rows all seen₀ r₀ seen r = rows - r
+returns : tie.Need-returns
+returns c = sym (c .before .in-order .ensures (c .if1 .taken))
 
-pointed-requires : tie.Need-pointed-requires Inv-loop μ-loop
-pointed-requires c κs = search needs
+first-wrong-requires : tie.Need-first-wrong-requires
+first-wrong-requires c κs = search needs
 
-none-requires : tie.Need-none-requires Inv-loop μ-loop
-none-requires c κs = search needs
-
-loop-holds : tie.Need-loop-holds Inv-loop μ-loop
-unfolding collect storeProgram counting
-loop-holds c = (omega arith, c .none .ensures .0, c .none .ensures .1, λ j l. absurd (omega arith))
-
-row-at-requires : tie.Need-row-at-requires Inv-loop μ-loop
-row-at-requires c κs = search needs
-
-pointers-of-requires : tie.Need-pointers-of-requires Inv-loop μ-loop
-pointers-of-requires c κs = search needs
-
-with-few-requires : tie.Need-with-few-requires Inv-loop μ-loop
-with-few-requires c κs = search needs
-
-has-stray-requires : tie.Need-has-stray-requires Inv-loop μ-loop
-has-stray-requires c κs = search needs
-
-is-lost-requires : tie.Need-is-lost-requires Inv-loop μ-loop
-is-lost-requires c κs = search needs
-
-larger-requires : tie.Need-larger-requires Inv-loop μ-loop
-larger-requires c κs = search needs
-
-larger-requires-2 : tie.Need-larger-requires-2 Inv-loop μ-loop
-larger-requires-2 c κs = search needs
-
-returns : tie.Need-returns Inv-loop μ-loop
-returns c =
-    let at-larger2 = c .before in
-    let at-larger = at-larger2 .before in
-    let at-is-lost = at-larger .before in
-    let at-has-stray = at-is-lost .before in
-    let at-with-few = at-has-stray .before in
-    let at-pointers-of = at-with-few .before in
-    let at-row-at = at-pointers-of .before in
-    let at-loop-test = at-row-at .before in
-    let at-loop = at-loop-test .before in
-    let at-pointed = at-loop .before .before in
-    let row = at-pointers-of .pointers-of .ensures ∙ ap pointers (at-row-at .row-at .ensures) in
-    let is = pointer-row _ _ _ (at-loop-test .loop-test .taken) _ _ _ (at-with-few .with-few .ensures) (at-loop .loop .inv .2) row (at-loop .loop .inv .1) (at-has-stray .has-stray .ensures)
-    (at-is-lost .is-lost .ensures _ (at-pointed .pointed .ensures)) in
-    let found = at-larger2 .larger2 .ensures ∙ ap (max _) (at-larger .larger .ensures) in
-    sym (first-row _ _ _ (at-loop-test .loop-test .taken) (flag-set _ (λ e. c .if1 .taken (found ∙ is ∙ e))) (at-loop .loop .inv .3))
-
-add-r : tie.Need-add-r Inv-loop μ-loop
-add-r c = search needs
-
-loop-less : tie.Need-loop-less Inv-loop μ-loop
-loop-less c = search needs
-
-loop-again : tie.Need-loop-again Inv-loop μ-loop
-loop-again c =
-    let at-larger2 = c .before in
-    let at-larger = at-larger2 .before in
-    let at-is-lost = at-larger .before in
-    let at-has-stray = at-is-lost .before in
-    let at-with-few = at-has-stray .before in
-    let at-pointers-of = at-with-few .before in
-    let at-row-at = at-pointers-of .before in
-    let at-loop-test = at-row-at .before in
-    let at-loop = at-loop-test .before in
-    let at-pointed = at-loop .before .before in
-    let row = at-pointers-of .pointers-of .ensures ∙ ap pointers (at-row-at .row-at .ensures) in
-    let is = pointer-row _ _ _ (at-loop-test .loop-test .taken) _ _ _ (at-with-few .with-few .ensures) (at-loop .loop .inv .2) row (at-loop .loop .inv .1) (at-has-stray .has-stray .ensures)
-    (at-is-lost .is-lost .ensures _ (at-pointed .pointed .ensures)) in
-    let found = at-larger2 .larger2 .ensures ∙ ap (max _) (at-larger .larger .ensures) in
-    let fresh : at-with-few .with-few .result .again ≡ 0 = omega arith in (
-      omega arith,
-      marks-row pointers _ _ _ _ _ (at-with-few .with-few .ensures) row (at-loop .loop .inv .1),
-      fresh,
-      below-more _ _ (at-loop .loop .inv .3)
-          (flag-clear _ (sym (found ∙ is) ∙ c .if1 .left)),
-    )
-
-returns-2 : tie.Need-returns-2 Inv-loop μ-loop
-returns-2 c = let e : c .before .loop .r ≡ c .before .before .before .before .before .args .rows = omega arith in sym (no-row _ _ (rw e at (c .before .loop .inv .3)))
+returns-2 : tie.Need-returns-2
+returns-2 c = search needs
 
 pub pointer-fault-spec : {M : Type 1} → statement M
-pointer-fault-spec =
-    tie.close
-    (tie.spec
-    Inv-loop
-    μ-loop
-    pointed-requires
-    none-requires
-    loop-holds
-    row-at-requires
-    pointers-of-requires
-    with-few-requires
-    has-stray-requires
-    is-lost-requires
-    larger-requires
-    larger-requires-2
-    returns
-    add-r
-    loop-less
-    loop-again
-    returns-2)
+pointer-fault-spec = tie.close (tie.spec in-order-requires returns first-wrong-requires returns-2)

@@ -32,14 +32,14 @@ refuse-store-requires c κs = search needs
 
 returns : tie.Need-returns
 returns c =
-    let at-bound = c .before .before .before .before .before in
+    let at-bound = c .before .before .before .before in
     let at-rows = at-bound .before .before .before in
     let at-open = at-rows .before .before in
     rw (c .refuse-store .ensures) (not-bound _ _ (rw (at-rows .rows .given .1) at (at-open .«open» .ensures)) _ _ (at-bound .bound .ensures) _ _ (c .before .before .byte-at .ensures) (c .before .if1 .taken))
 
 allowed-members-requires : tie.Need-allowed-members-requires
 allowed-members-requires c κs =
-    let at-rows = c .before .before .before .before .before .before .before in
+    let at-rows = c .before .before .before .before .before .before in
     let at-open = at-rows .before .before in
     few-rows _ _ (rw (at-rows .rows .given .1) at (at-open .«open» .ensures))
 
@@ -58,7 +58,7 @@ returns-2 c =
     let at-allowed-members = at-mark-members .before .before .before in
     let at-if1 = at-allowed-members .before in
     let at-byte-at = at-if1 .before in
-    let at-bound = at-byte-at .before .before .before in
+    let at-bound = at-byte-at .before .before in
     let at-rows = at-bound .before .before .before in
     let at-open = at-rows .before .before in
     a-set _ _ (rw (at-rows .rows .given .1) at (at-open .«open» .ensures)) _ (is-bound _ _ (rw (at-rows .rows .given .1) at (at-open .«open» .ensures)) _ _ (at-bound .bound .ensures) (at-byte-at .byte-at .ensures) (at-if1 .if1 .left)) _ (at-allowed-members .allowed-members .ensures) (at-mark-members .mark-members .ensures) (c .if2 .taken)
@@ -78,7 +78,7 @@ returns-4 c =
     let at-allowed-members = at-mark-members .before .before .before in
     let at-if1 = at-allowed-members .before in
     let at-byte-at = at-if1 .before in
-    let at-bound = at-byte-at .before .before .before in
+    let at-bound = at-byte-at .before .before in
     let at-rows = at-bound .before .before .before in
     let at-open = at-rows .before .before in
     rw (c .refuse-store2 .ensures) (not-a-set _ _ (rw (at-rows .rows .given .1) at (at-open .«open» .ensures)) _ (is-bound _ _ (rw (at-rows .rows .given .1) at (at-open .«open» .ensures)) _ _ (at-bound .bound .ensures) (at-byte-at .byte-at .ensures) (at-if1 .if1 .left)) _ (at-allowed-members .allowed-members .ensures) (at-mark-members .mark-members .ensures) (c .before .if2 .left))

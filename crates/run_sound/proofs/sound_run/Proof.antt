@@ -29,7 +29,7 @@ sound-cells-requires c κs = search needs
 
 returns-2 : tie.Need-returns-2
 returns-2 c =
-    let at-bound = c .before .before .before .before in
+    let at-bound = c .before .before .before in
     let at-if1 = at-bound .before in
     let at-within-limits = at-if1 .before in
     let at-in-use = at-within-limits .before in
@@ -40,7 +40,7 @@ slice-aggregate-sound-frames c = search needs
 
 sound-frames-requires : tie.Need-sound-frames-requires
 sound-frames-requires c κs =
-    let at-if1 = c .before .before .before .before .before .before in
+    let at-if1 = c .before .before .before .before .before in
     let at-within-limits = at-if1 .before in
     let at-in-use = at-within-limits .before in
     in-limits _ _ (at-in-use .in-use .ensures) (passed (at-within-limits .within-limits .ensures) (at-if1 .if1 .left))
@@ -49,7 +49,7 @@ returns-3 : tie.Need-returns-3
 returns-3 c =
     let at-if2 = c .before .before .before in
     let at-sound-cells = at-if2 .before in
-    let at-bound = at-sound-cells .before .before .before in
+    let at-bound = at-sound-cells .before .before in
     let at-if1 = at-bound .before in
     let at-within-limits = at-if1 .before in
     let at-in-use = at-within-limits .before in
@@ -57,7 +57,7 @@ returns-3 c =
 
 sound-threads-requires : tie.Need-sound-threads-requires
 sound-threads-requires c κs =
-    let at-if1 = c .before .before .before .before .before .before .before .before in
+    let at-if1 = c .before .before .before .before .before .before .before in
     let at-within-limits = at-if1 .before in
     let at-in-use = at-within-limits .before in
     few-threads _ _ (at-in-use .in-use .ensures) (passed (at-within-limits .within-limits .ensures) (at-if1 .if1 .left))
@@ -67,7 +67,7 @@ returns-4 c =
     let at-sound-frames = c .before .before in
     let at-if2 = at-sound-frames .before .before in
     let at-sound-cells = at-if2 .before in
-    let at-bound = at-sound-cells .before .before .before in
+    let at-bound = at-sound-cells .before .before in
     let at-if1 = at-bound .before in
     let at-within-limits = at-if1 .before in
     let at-in-use = at-within-limits .before in

@@ -1,0 +1,78 @@
+-- `see_few` meets its contract: the numbers are added one after the other.
+use Rattle.seen.proofs.Marking.{adds-none, adds-then}
+use borrow.Author.Needs.{needs}
+use Rattle.seen.proofs.see_few.Statement.{statement}
+use Rattle.seen.proofs.see_few.Tie as tie
+
+enum-told : tie.Need-enum-told
+enum-told c = search needs
+
+enum-known-few : tie.Need-enum-known-few
+enum-known-few c = search needs
+
+see-requires : tie.Need-see-requires
+see-requires c κs = search needs
+
+enum-known-few-2 : tie.Need-enum-known-few-2
+enum-known-few-2 c = search needs
+
+see-requires-2 : tie.Need-see-requires-2
+see-requires-2 c κs = search needs
+
+see-requires-3 : tie.Need-see-requires-3
+see-requires-3 c κs = search needs
+
+larger-requires : tie.Need-larger-requires
+larger-requires c κs = search needs
+
+enum-known-few-3 : tie.Need-enum-known-few-3
+enum-known-few-3 c = search needs
+
+see-requires-4 : tie.Need-see-requires-4
+see-requires-4 c κs = search needs
+
+see-requires-5 : tie.Need-see-requires-5
+see-requires-5 c κs = search needs
+
+see-requires-6 : tie.Need-see-requires-6
+see-requires-6 c κs = search needs
+
+larger-requires-2 : tie.Need-larger-requires-2
+larger-requires-2 c κs = search needs
+
+larger-requires-3 : tie.Need-larger-requires-3
+larger-requires-3 c κs = search needs
+
+returns : tie.Need-returns
+returns c = rw (c .enum-told .given .1) (adds-none _)
+
+returns-2 : tie.Need-returns-2
+returns-2 c = rw (c .before .before .before .few .given .1) (c .see .ensures)
+
+returns-3 : tie.Need-returns-3
+returns-3 c = rw (c .before .before .before .before .before .before .few2 .given .1) (adds-then (c .before .before .before .see2 .ensures) (c .before .see3 .ensures) (c .larger .ensures))
+
+returns-4 : tie.Need-returns-4
+returns-4 c = rw (c .before .before .before .before .before .before .before .before .before .few3 .given .1) (adds-then (c .before .before .before .before .before .before .see4 .ensures) (adds-then (c .before .before .before .before .see5 .ensures) (c .before .before .see6 .ensures) (c .before .larger2 .ensures)) (c .larger3 .ensures))
+
+pub see-few-spec : {M : Type 1} → statement M
+see-few-spec =
+    tie.close
+    (tie.spec
+    enum-told
+    enum-known-few
+    see-requires
+    enum-known-few-2
+    see-requires-2
+    see-requires-3
+    larger-requires
+    enum-known-few-3
+    see-requires-4
+    see-requires-5
+    see-requires-6
+    larger-requires-2
+    larger-requires-3
+    returns
+    returns-2
+    returns-3
+    returns-4)
