@@ -78,16 +78,16 @@ module _ (p : Program) {keys chans members : Bytes} (bound : Tells (λ n. elem n
 module _ (n : ℕ) (s : Bytes) {keys chans members : Bytes}
     (bound : Tells (λ k. elem k (collect binders (storeProgram n s))) keys) (chan : Tells (chanRow (storeProgram n s)) chans) (allowed : Tells (memberAllowed (storeProgram n s)) members)
   where
-    abbrev flows : List Entry
+    abbrev pub flows : List Entry
     flows = decodeSets rowLimit 0 (drop rowsSize s)
 
-    abbrev comms : List Entry
+    abbrev pub comms : List Entry
     comms = decodeSets rowLimit 0 (drop (commsStart) s)
 
-    abbrev claims : List Claim
+    abbrev pub claims : List Claim
     claims = decodeClaims 0 (take rowLimit (drop (claimsStart) s))
 
-    parts : notAllowed (storeDocument n s)
+    pub parts : notAllowed (storeDocument n s)
         ≡ (firstFailing (entryMarked keys members) (n + 2) flows
         <|> firstFailing (entryMarked chans members) (n + 2 + length flows) comms
         <|> firstFailing (claimMarked chans) (n + 2 + length flows + length comms) claims)

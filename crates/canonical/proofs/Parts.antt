@@ -1,18 +1,17 @@
--- The parts of a store: what stands behind its rows, the sets and the claims, and the tests in turn.
+-- What stands behind the rows of a store, and the tests of its rows in turn.
 use Prim.Native.Nat.{ℕ, zero, suc, _*_, _-_, _<_}
 use native.Mathlib.Omega.{arith}
 use mathlib.Core.Bool.{Bool, true, false, _&&_}
 use mathlib.Core.List.{[], _∷_}
 use mathlib.Core.Path.{_≡_, refl, sym, ap, _∙_}
-use lib.ListN.{length, take, drop}
+use lib.ListN.{take, drop}
 use lib.Seq.{take-nil}
 use lib.Dec.{ltb}
 use borrow.Author.Tests.{lt-ltb, le-ltb}
 use Rattle.format.specs.Text.{Bytes}
-use Rattle.calls.specs.Layout.{rowSize, rowsSize, claimsStart, codeLimit}
-use Rattle.calls.specs.Canonical.{rowsSound, restZero, flagsSound, claimsSound}
+use Rattle.calls.specs.Layout.{rowSize, rowsSize}
+use Rattle.calls.specs.Canonical.{rowsSound, restZero}
 use Rattle.byte_tests.proofs.Below.{below-zero, Below}
-use Rattle.store.proofs.Laws.{rest-all}
 
 -- ---- the rest
 
@@ -26,28 +25,14 @@ pub rest-is : (s : Bytes) (n : ℕ) → restZero n s ≡ Below 1 (take (rowsSize
 unfolding restZero
 rest-is s n = below-zero (drop (n * rowSize) (take rowsSize s)) ∙ ap (Below 1) (drop-take (n * rowSize) rowsSize s)
 
-pub flags-are : (s : Bytes) → flagsSound s ≡ Below 2 (take (claimsStart - rowsSize) (drop rowsSize s))
-unfolding flagsSound
-flags-are s = refl
-
-pub claims-are : (s : Bytes) → claimsSound s ≡ Below codeLimit (take (length s - claimsStart) (drop claimsStart s))
-unfolding claimsSound
-claims-are s = ap (Below codeLimit) (sym (rest-all s claimsStart))
-
 -- ---- the tests in turn
 
 module _ (s : Bytes) (n : ℕ) where
   abbrev pub Tests : Bool
-  Tests = ltb 0 n && rowsSound n s && restZero n s && flagsSound s && claimsSound s
+  Tests = ltb 0 n && rowsSound n s && restZero n s
 
   abbrev pub restPart : Bytes
   restPart = take (rowsSize - n * rowSize) (drop (n * rowSize) s)
-
-  abbrev pub flagsPart : Bytes
-  flagsPart = take (claimsStart - rowsSize) (drop rowsSize s)
-
-  abbrev pub claimsPart : Bytes
-  claimsPart = take (length s - claimsStart) (drop claimsStart s)
 
   above : (n ≡ 0 → ⊥) → ltb 0 n ≡ true
   above h = lt-ltb 0 n (go n h)
@@ -62,11 +47,5 @@ module _ (s : Bytes) (n : ℕ) where
   pub rows-unsound : (n ≡ 0 → ⊥) → rowsSound n s ≡ false → false ≡ Tests
   rows-unsound some r = rw (above some, r)
 
-  pub rest-unsound : (n ≡ 0 → ⊥) → rowsSound n s ≡ true → Below 1 restPart ≡ false → false ≡ Tests
-  rest-unsound some r z = rw (above some, r, rest-is s n, z)
-
-  pub flags-unsound : (n ≡ 0 → ⊥) → rowsSound n s ≡ true → Below 1 restPart ≡ true → Below 2 flagsPart ≡ false → false ≡ Tests
-  flags-unsound some r z f = rw (above some, r, rest-is s n, z, flags-are s, f)
-
-  pub claims-decide : (n ≡ 0 → ⊥) → rowsSound n s ≡ true → Below 1 restPart ≡ true → Below 2 flagsPart ≡ true → Below codeLimit claimsPart ≡ Tests
-  claims-decide some r z f = rw (above some, r, rest-is s n, z, flags-are s, f, claims-are s)
+  pub rest-decides : (n ≡ 0 → ⊥) → rowsSound n s ≡ true → Below 1 restPart ≡ Tests
+  rest-decides some r = rw (above some, r, rest-is s n)

@@ -1,39 +1,43 @@
 -- Opening a store: the tests of its bytes, then those of its structure.
 use Prim.Native.Nat.{ℕ, _≤_, _<_}
 use native.Mathlib.Omega.{arith}
-use mathlib.Core.Bool.{Bool, true, false, not, _&&_}
+use mathlib.Core.Bool.{Bool, true, false, not, _&&_, and-false}
 use mathlib.Core.List.{[], _∷_}
-use mathlib.Core.Option.{none, some}
+use mathlib.Core.Option.{Option, none, some}
 use mathlib.Core.Path.{_≡_, refl, sym, ap, _∙_, subst}
 use lib.ListN.{length, getD, take}
 use lib.Seq.{length-take-le}
 use lib.Dec.{ltb, eqb}
 use borrow.Author.Tests.{lt-ltb, le-ltb, ltb-false, ne-eqb}
+use Rattle.program.specs.Maybe.{_>>=_, _<|>_}
 use Rattle.program.specs.Each.{every}
 use Rattle.format.specs.declared.Refusal.{Refusal}
-use Rattle.format.specs.declared.Reason.the-variants.{StoreTooShort, StoreEmpty, StoreUnsound}
+use Rattle.format.specs.declared.Reason.the-variants.{StoreTooShort, StoreEmpty, StoreUnsound, NotAllowed}
 use Rattle.format.specs.Limits.{rowLimit}
 use Rattle.format.specs.Text.{Bytes}
 use Rattle.format.specs.Refusals.{refusal, Result, refused, accepted}
 use Rattle.format.specs.Document.{Document}
-use Rattle.format.specs.Structure.{structureFault}
+use Rattle.format.specs.Structure.{notAllowed, structureFault}
 use Rattle.calls.specs.Layout.{storeSize, decode}
 use Rattle.calls.specs.Calls.{Leaves, unaltered, isEmpty, unsound, openedFixed, opened}
 use Rattle.calls.specs.Canonical.{countRows, rowsSound, restZero, flagsSound, claimsSound, canonical}
 use Rattle.calls.proofs.Canonical.{sound-test}
+use Rattle.store.specs.Rows.{storeProgram}
 use Rattle.store.specs.Document.{storeDocument}
 use Rattle.store.proofs.Document.{document-is}
+use Rattle.structure.specs.Answer.{treeFault}
+use Rattle.structure.proofs.Refusing.{tree-then, tree-refused}
+use Rattle.sound_lines.specs.Sound.{passes}
 use Rattle.opening.specs.declared.Opened.{Opened}
 use Rattle.opening.specs.Opening.{OpenedIs}
 
+-- a refusal at a line is none where there is no line
+line-passes : (o : Option ℕ) → passes (o >>= λ line. some (refusal NotAllowed line)) ≡ passes o
+unfolding _>>=_
+line-passes none = refl
+line-passes (some line) = refl
+
 module _ (s : Bytes) (size : length s ≡ storeSize) where
-  abbrev Tests : ℕ → Bool
-  Tests n = ltb 0 n && rowsSound n s && restZero n s && flagsSound s && claimsSound s
-
-  tests-are : (n : ℕ) → n ≡ countRows rowLimit s → canonical s ≡ Tests n
-  unfolding canonical
-  tests-are n e = rw e refl
-
   -- 21 is not given where the first byte is not 0
   pub first-byte : (getD s 0 0 ≡ 0 → ⊥) → false ≡ isEmpty s
   unfolding isEmpty every
@@ -60,22 +64,34 @@ module _ (s : Bytes) (size : length s ≡ storeSize) where
   unfolding openedFixed
   store-opens n e z u = rw (z, u, openedFixed) (record { document-is = refl; answer-is = ap Opened.Rows e })
 
-  pub tests-refuse : (n : ℕ) → n ≡ countRows rowLimit s → Tests n ≡ false → true ≡ unsound s
-  tests-refuse n e t = sym (sound-test s size ∙ rw (tests-are n e, t))
+  -- the tests of the rows, of the tree, and of the sets and claims
+  module _ (n : ℕ) (e : n ≡ countRows rowLimit s) where
+    abbrev RowTests : Bool
+    RowTests = ltb 0 n && rowsSound n s && restZero n s
 
-  pub structure-refuses : (n : ℕ) → n ≡ countRows rowLimit s → (r : Refusal) → some r ≡ structureFault (storeDocument n s) → true ≡ unsound s
-  structure-refuses n e r f =
-      let q : structureFault (decode s) ≡ some r = ap structureFault (sym (document-is n s (omega (arith, size)) e)) ∙ sym f in
-      sym (sound-test s size ∙ rw q (go (canonical s)))
-    where
-      go : (b : Bool) → not (b && false) ≡ true
-      go true = refl
-      go false = refl
+    sound-is : not (unsound s) ≡ RowTests && flagsSound s && claimsSound s && passes (structureFault (storeDocument n s))
+    unfolding canonical
+    sound-is =
+        let q : structureFault (storeDocument n s) ≡ structureFault (decode s) = ap structureFault (document-is n s (omega (arith, size)) e) in
+        ap not (sound-test s size) ∙ twice (canonical s && passes (structureFault (decode s))) ∙ sym (same q)
+      where
+        twice : (b : Bool) → not (not b) ≡ b
+        twice true = refl
+        twice false = refl
 
-  pub tests-pass : (n : ℕ) → n ≡ countRows rowLimit s → Tests n ≡ true → none ≡ structureFault (storeDocument n s) → false ≡ unsound s
-  tests-pass n e t f =
-      let q : structureFault (decode s) ≡ none = ap structureFault (sym (document-is n s (omega (arith, size)) e)) ∙ sym f in
-      sym (sound-test s size ∙ rw (q, tests-are n e, t))
+        same : structureFault (storeDocument n s) ≡ structureFault (decode s)
+            → RowTests && flagsSound s && claimsSound s && passes (structureFault (storeDocument n s)) ≡ canonical s && passes (structureFault (decode s))
+        same q = rw (q, e)
+
+    pub rows-fail : RowTests ≡ false → false ≡ not (unsound s)
+    rows-fail t = rw (sound-is, t)
+
+    pub tree-fails : {r : Refusal} → some r ≡ treeFault (storeProgram n s) → false ≡ not (unsound s)
+    tree-fails f = rw (sound-is, ← (tree-refused n s f)) (sym (and-false (RowTests && flagsSound s && claimsSound s)))
+
+    pub lines-decide : RowTests ≡ true → none ≡ treeFault (storeProgram n s) → {b : Bool} → b ≡ (flagsSound s && claimsSound s && passes (notAllowed (storeDocument n s))) → b ≡ not (unsound s)
+    unfolding _<|>_
+    lines-decide t f q = rw (sound-is, t, tree-then n s, ← f) (q ∙ ap (λ (b : Bool). flagsSound s && claimsSound s && b) (sym (line-passes (notAllowed (storeDocument n s)))))
 
 -- ---- a store at the head of a slice
 

@@ -1,13 +1,18 @@
 // 20, 21 and 22: what a store must be for judge, verdict and write.
 use format::Reason;
 use format::Refusal;
+use seen::NUMBERS;
 use store::Store;
 use structure::Structure;
 ghost use mathlib.Core.Path.{_≡_};
+ghost use mathlib.Core.Bool.{not};
+ghost use Prim.Native.Nat.{_≤_};
 ghost use Rattle.opening.specs.declared.Opened.{Opened};
 ghost use lib.ListN.{length, take};
+ghost use Rattle.format.specs.Limits.{rowLimit};
 ghost use Rattle.format.specs.Refusals.{refusal};
 ghost use Rattle.calls.specs.Layout.{storeSize};
+ghost use Rattle.calls.specs.Canonical.{countRows};
 ghost use Rattle.calls.specs.Calls.{isEmpty, unsound, openedFixed, opened};
 ghost use Rattle.opening.specs.Opening.{OpenedIs};
 
@@ -38,19 +43,20 @@ fn is_empty(fixed: &[u8]) -> bool
     byte_tests::all_zero(fixed)
 }
 
-// 22: whether no load leaves these bytes, the length limit set aside.
-fn is_unsound(fixed: &[u8]) -> bool
+// 22: whether these bytes, which have so many rows, are such as a load leaves, the length limit set aside.
+fn is_sound(fixed: &[u8], rows: u8) -> bool
     requires { ⌜ length (now fixed) ≡ storeSize ⌝ }
-    ensures { λ b. ⌜ b ≡ unsound (now (fixed .entry)) ⌝ }
+    requires { ⌜ (rows ≡ countRows rowLimit (now fixed)) × (rows ≤ rowLimit) ⌝ }
+    ensures { λ b. ⌜ b ≡ not (unsound (now (fixed .entry))) ⌝ }
 {
-    let rows = row_bytes::count_rows(fixed);
-    if canonical::canonical(fixed, rows) {
-        let Structure::Sound = structure::structure_fault(fixed, rows) else {
-            return true;
+    if canonical::rows_canonical(fixed, rows) {
+        let mut names = [0; NUMBERS];
+        let Structure::Sound = structure::tree_fault(fixed, rows, &mut names) else {
+            return false;
         };
-        return false;
+        return sound_lines::lines_sound(fixed, rows, &names);
     }
-    true
+    false
 }
 
 // 21 and 22 of a store's fixed size.
@@ -61,10 +67,11 @@ fn open_fixed(fixed: &[u8]) -> Opened
     if is_empty(fixed) {
         return refuse_store(Reason::StoreEmpty);
     }
-    if is_unsound(fixed) {
-        return refuse_store(Reason::StoreUnsound);
+    let rows = row_bytes::count_rows(fixed);
+    if is_sound(fixed, rows) {
+        return Opened::Rows(rows);
     }
-    Opened::Rows(row_bytes::count_rows(fixed))
+    refuse_store(Reason::StoreUnsound)
 }
 
 // 20, 21 and 22 of a store, at the head of a slice.

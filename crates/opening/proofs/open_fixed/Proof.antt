@@ -1,5 +1,6 @@
 -- `open_fixed` meets its contract: 21, then 22, then the rows that are counted.
 use mathlib.Core.Path.{sym, _∙_}
+use borrow.Author.Tests.{not-true, not-false}
 use Rattle.opening.proofs.Opening.{empty-refused, unsound-refused, store-opens}
 use borrow.Author.Needs.{needs}
 use Rattle.opening.proofs.open_fixed.Statement.{statement}
@@ -14,32 +15,20 @@ refuse-store-requires c κs = search needs
 returns : tie.Need-returns
 returns c = rw (c .refuse-store .ensures) (empty-refused _ (c .before .before .before .before .pre) (sym (c .before .before .is-empty .ensures) ∙ c .before .if1 .taken))
 
-is-unsound-requires : tie.Need-is-unsound-requires
-is-unsound-requires c κs = search needs
+count-rows-requires : tie.Need-count-rows-requires
+count-rows-requires c κs = search needs
+
+is-sound-requires : tie.Need-is-sound-requires
+is-sound-requires c κs = search needs
+
+returns-2 : tie.Need-returns-2
+returns-2 c = store-opens _ (c .before .before .before .before .before .before .pre) _ (c .before .before .count-rows .ensures .0) (sym (c .before .before .before .before .is-empty .ensures) ∙ c .before .before .before .if1 .left) (not-true _ (sym (c .before .is-sound .ensures) ∙ c .if2 .taken))
 
 refuse-store-requires-2 : tie.Need-refuse-store-requires-2
 refuse-store-requires-2 c κs = search needs
 
-returns-2 : tie.Need-returns-2
-returns-2 c =
-    let at-if2 = c .before in
-    let at-is-unsound = at-if2 .before in
-    let at-if1 = at-is-unsound .before in
-    let at-is-empty = at-if1 .before in
-    let start = at-is-empty .before .before in
-    rw (c .refuse-store2 .ensures) (unsound-refused _ (start .pre) (sym (at-is-empty .is-empty .ensures) ∙ at-if1 .if1 .left) (sym (at-is-unsound .is-unsound .ensures) ∙ at-if2 .if2 .taken))
-
-count-rows-requires : tie.Need-count-rows-requires
-count-rows-requires c κs = search needs
-
 returns-3 : tie.Need-returns-3
-returns-3 c =
-    let at-if2 = c .before in
-    let at-is-unsound = at-if2 .before in
-    let at-if1 = at-is-unsound .before in
-    let at-is-empty = at-if1 .before in
-    let start = at-is-empty .before .before in
-    store-opens _ (start .pre) _ (c .count-rows .ensures .0) (sym (at-is-empty .is-empty .ensures) ∙ at-if1 .if1 .left) (sym (at-is-unsound .is-unsound .ensures) ∙ at-if2 .if2 .left)
+returns-3 c = rw (c .refuse-store2 .ensures) (unsound-refused _ (c .before .before .before .before .before .before .before .pre) (sym (c .before .before .before .before .before .is-empty .ensures) ∙ c .before .before .before .before .if1 .left) (not-false _ (sym (c .before .before .is-sound .ensures) ∙ c .before .if2 .left)))
 
 pub open-fixed-spec : {M : Type 1} → statement M
 open-fixed-spec =
@@ -48,8 +37,8 @@ open-fixed-spec =
     is-empty-requires
     refuse-store-requires
     returns
-    is-unsound-requires
-    refuse-store-requires-2
-    returns-2
     count-rows-requires
+    is-sound-requires
+    returns-2
+    refuse-store-requires-2
     returns-3)
