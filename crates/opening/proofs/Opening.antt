@@ -27,7 +27,8 @@ use Rattle.store.specs.Document.{storeDocument}
 use Rattle.store.proofs.Document.{document-is}
 use Rattle.structure.specs.Answer.{treeFault}
 use Rattle.structure.proofs.Refusing.{tree-then, tree-refused}
-use Rattle.sound_lines.specs.Sound.{passes}
+use Rattle.sound_lines.specs.Sound.{codesSound, passes}
+use Rattle.sound_lines.proofs.Lines.{claims-codes}
 use Rattle.opening.specs.declared.Opened.{Opened}
 use Rattle.opening.specs.Opening.{OpenedIs}
 
@@ -89,9 +90,9 @@ module _ (s : Bytes) (size : length s ≡ storeSize) where
     pub tree-fails : {r : Refusal} → some r ≡ treeFault (storeProgram n s) → false ≡ not (unsound s)
     tree-fails f = rw (sound-is, ← (tree-refused n s f)) (sym (and-false (RowTests && flagsSound s && claimsSound s)))
 
-    pub lines-decide : RowTests ≡ true → none ≡ treeFault (storeProgram n s) → {b : Bool} → b ≡ (flagsSound s && claimsSound s && passes (notAllowed (storeDocument n s))) → b ≡ not (unsound s)
+    pub lines-decide : RowTests ≡ true → none ≡ treeFault (storeProgram n s) → {b : Bool} → b ≡ (flagsSound s && codesSound s && passes (notAllowed (storeDocument n s))) → b ≡ not (unsound s)
     unfolding _<|>_
-    lines-decide t f q = rw (sound-is, t, tree-then n s, ← f) (q ∙ ap (λ (b : Bool). flagsSound s && claimsSound s && b) (sym (line-passes (notAllowed (storeDocument n s)))))
+    lines-decide t f q = rw (sound-is, t, tree-then n s, ← f) (q ∙ ap (λ (b : Bool). flagsSound s && b && passes (notAllowed (storeDocument n s))) (claims-codes s size) ∙ ap (λ (b : Bool). flagsSound s && claimsSound s && b) (sym (line-passes (notAllowed (storeDocument n s)))))
 
 -- ---- a store at the head of a slice
 

@@ -1,7 +1,6 @@
 // Which numbers were seen: a byte for each, 1 where it was seen. The marks are lent, and each step answers whether a number was seen again.
 use byte_order::larger;
 use row_numbers::Few;
-ghost use mathlib.Core.Path.{_≡_};
 ghost use mathlib.Core.List.{[], _∷_};
 ghost use Rattle.row_numbers.specs.Numbers.{numbersOf};
 ghost use Rattle.seen.specs.Seen.{Adds};

@@ -6,16 +6,15 @@ use native.Mathlib.Numerals.{add-one}
 use native.Mathlib.Decide.{decLt}
 use mathlib.Core.Bool.{Bool, true, false, _&&_, and-true, and-false, and-assoc}
 use mathlib.Core.List.{List, [], _∷_, _++_}
-use mathlib.Core.Path.{_≡_, refl, sym, ap, _∙_}
-use lib.ListN.{length, take, drop, length-drop}
-use lib.Seq.{drop-drop, take-add, take-all}
+use mathlib.Core.Path.{_≡_, refl, sym, _∙_}
+use lib.ListN.{length, take, drop}
+use lib.Seq.{drop-drop, take-add}
 use lib.Dec.{ltb, leb, eqb}
 use borrow.Author.Tests.{leb-true, leb-false, ne-eqb}
-use Rattle.program.specs.Test.{pick}
 use Rattle.program.specs.Each.{every}
 use Rattle.format.specs.Limits.{rowLimit}
 use Rattle.format.specs.Text.{Bytes, byteAt}
-use Rattle.calls.specs.Layout.{memberLimit, storeSize, claimsStart}
+use Rattle.calls.specs.Layout.{memberLimit, claimsStart}
 use Rattle.store.proofs.Claims.{part-inside}
 use Rattle.byte_tests.proofs.Below.{Below}
 use Rattle.sound_lines.specs.Sound.{within, setSound, setsSound, claimLimit, claimsWithin, NextKey}
@@ -57,8 +56,8 @@ abbrev pub claimsFrom : Bytes → Bytes → ℕ → Bool
 claimsFrom s chans c = claimsWithin chans c (take (rowLimit - c) (drop (claimsStart + c) s))
 
 module _ (s chans : Bytes) where
-  pub claims-begin : length s ≡ storeSize → claimsFrom s chans 0 ≡ claimsWithin chans 0 (drop claimsStart s)
-  claims-begin size = ap (claimsWithin chans 0) (take-all rowLimit (drop claimsStart s) (rw (length-drop claimsStart s) (omega (arith, size))))
+  pub claims-begin : claimsFrom s chans 0 ≡ claimsWithin chans 0 (take rowLimit (drop claimsStart s))
+  claims-begin = refl
 
   pub claims-go : (c most : ℕ) {limit x next : ℕ} → c < rowLimit → claimsStart + c < length s → limit ≡ claimLimit (byteAt chans c) → x ≡ byteAt s (claimsStart + c) - limit → next ≡ max most x
       → eqb next 0 && claimsFrom s chans (c + 1) ≡ eqb most 0 && claimsFrom s chans c

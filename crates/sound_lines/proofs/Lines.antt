@@ -8,8 +8,7 @@ use mathlib.Core.Path.{_≡_, refl, sym, ap, ap₂, _∙_}
 use lib.ListN.{length, take, drop, length-drop}
 use lib.Seq.{drop-drop, take-add, take-all}
 use lib.Dec.{ltb, leb, eqb}
-use borrow.Author.Tests.{ne-eqb, lt-ltb, le-ltb, le-leb, lt-leb, eqb-true, eqb-false, ltb-true, ltb-false}
-use Rattle.program.specs.Test.{pick}
+use borrow.Author.Tests.{ne-eqb, le-ltb, le-leb, lt-leb, ltb-true, ltb-false}
 use Rattle.program.specs.Maybe.{_<|>_}
 use Rattle.program.specs.Each.{every, elem, collect}
 use Rattle.program.specs.Program.{binders, chanRow}
@@ -26,7 +25,7 @@ use Rattle.byte_tests.proofs.Below.{Below}
 use Rattle.seen.specs.Flags.{flag, Tells}
 use Rattle.allowed_lines.specs.Lines.{marked, entryMarked, claimMarked}
 use Rattle.allowed.proofs.FirstLine.{parts}
-use Rattle.sound_lines.specs.Sound.{within, setSound, setsSound, claimLimit, claimsWithin, passes}
+use Rattle.sound_lines.specs.Sound.{within, setSound, setsSound, claimLimit, claimsWithin, codesSound, passes}
 use Rattle.sound_lines.proofs.Bytes.{every-both}
 
 -- four tests in another order
@@ -155,11 +154,16 @@ three-pass none none c = refl
 
 -- ---- all lines
 
-module _ (n : ℕ) (s : Bytes) (size : length s ≡ storeSize) {keys chans members : Bytes}
+-- in a store of the fixed size the claims are its end
+pub claims-codes : (s : Bytes) → length s ≡ storeSize → codesSound s ≡ claimsSound s
+unfolding codesSound claimsSound
+claims-codes s size = ap (Below codeLimit) (take-all rowLimit (drop claimsStart s) (rw (length-drop claimsStart s) (omega (arith, size))))
+
+module _ (n : ℕ) (s : Bytes) {keys chans members : Bytes}
     (bound : Tells (λ k. elem k (collect binders (storeProgram n s))) keys) (chan : Tells (chanRow (storeProgram n s)) chans) (allowed : Tells (memberAllowed (storeProgram n s)) members)
   where
     abbrev Sound : Bool
-    Sound = flagsSound s && claimsSound s && passes (notAllowed (storeDocument n s))
+    Sound = flagsSound s && codesSound s && passes (notAllowed (storeDocument n s))
 
     abbrev flowsPart : Bytes
     flowsPart = drop rowsSize s
@@ -168,7 +172,7 @@ module _ (n : ℕ) (s : Bytes) (size : length s ≡ storeSize) {keys chans membe
     commsPart = drop commsStart s
 
     abbrev claimsPart : Bytes
-    claimsPart = drop claimsStart s
+    claimsPart = take rowLimit (drop claimsStart s)
 
     flags-are : flagsSound s ≡ Below 2 (take setsSize flowsPart) && Below 2 (take setsSize commsPart)
     unfolding flagsSound
@@ -177,19 +181,16 @@ module _ (n : ℕ) (s : Bytes) (size : length s ≡ storeSize) {keys chans membe
         ∙ every-both (λ b. ltb b 2) (take setsSize flowsPart) (take setsSize (drop setsSize flowsPart))
         ∙ ap (λ (part : Bytes). Below 2 (take setsSize flowsPart) && Below 2 (take setsSize part)) (drop-drop setsSize rowsSize s)
 
-    codes-are : claimsSound s ≡ Below codeLimit claimsPart
-    unfolding claimsSound
+    codes-are : codesSound s ≡ Below codeLimit claimsPart
+    unfolding codesSound
     codes-are = refl
-
-    claims-part : take rowLimit claimsPart ≡ claimsPart
-    claims-part = take-all rowLimit claimsPart (rw (length-drop claimsStart s) (omega (arith, size)))
 
     lines-are : passes (notAllowed (storeDocument n s))
         ≡ (every (entryMarked keys members) (decodeSets rowLimit 0 flowsPart) && every (entryMarked chans members) (decodeSets rowLimit 0 commsPart) && every (claimMarked chans) (decodeClaims 0 claimsPart))
     lines-are =
         ap (λ (o : Option ℕ). passes o) (parts n s bound chan allowed)
         ∙ three-pass _ _ _
-        ∙ ap₂ _&&_ (ap₂ _&&_ (none-fails _ _ _) (none-fails _ _ _)) (none-fails _ _ _ ∙ ap (λ (part : Bytes). every (claimMarked chans) (decodeClaims 0 part)) claims-part)
+        ∙ ap₂ _&&_ (ap₂ _&&_ (none-fails _ _ _) (none-fails _ _ _)) (none-fails _ _ _)
 
     tests-are : Sound ≡ (setsSound keys members rowLimit 0 flowsPart && setsSound chans members rowLimit 0 commsPart && claimsWithin chans 0 claimsPart)
     tests-are =
@@ -208,5 +209,5 @@ module _ (n : ℕ) (s : Bytes) (size : length s ≡ storeSize) {keys chans membe
         pub comms-fail : g ≡ false → false ≡ Sound
         comms-fail e = rw (tests-are, ← flow, flows-pass, ← comm, e)
 
-        pub claims-decide : g ≡ true → {h : Bool} → h ≡ claimsWithin chans 0 (drop claimsStart s) → h ≡ Sound
+        pub claims-decide : g ≡ true → {h : Bool} → h ≡ claimsWithin chans 0 claimsPart → h ≡ Sound
         claims-decide e q = rw (tests-are, ← flow, flows-pass, ← comm, e) q

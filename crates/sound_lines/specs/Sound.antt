@@ -10,7 +10,7 @@ use Rattle.program.specs.Test.{pick}
 use Rattle.program.specs.Each.{every}
 use Rattle.format.specs.Limits.{rowLimit}
 use Rattle.format.specs.Text.{Bytes, byteAt}
-use Rattle.calls.specs.Layout.{memberLimit, codeLimit}
+use Rattle.calls.specs.Layout.{memberLimit, claimsStart, codeLimit}
 
 -- each byte is at most its limit, where the first byte's limit stands at m
 unfoldable pub within : Bytes → ℕ → Bytes → Bool
@@ -34,6 +34,10 @@ claimLimit chan = pick (eqb chan 0) 0 (codeLimit - 1)
 unfoldable pub claimsWithin : Bytes → ℕ → Bytes → Bool
 claimsWithin chans c [] = true
 claimsWithin chans c (k ∷ ks) = leb k (claimLimit (byteAt chans c)) && claimsWithin chans (suc c) ks
+
+-- the claims of a store, at its head, have the codes of words
+unfoldable pub codesSound : Bytes → Bool
+codesSound s = every (λ b. ltb b codeLimit) (take rowLimit (drop claimsStart s))
 
 -- key k is the first from n on that is marked, or there is none and k is the number of keys
 pub record NextKey (keys : Bytes) (n k : ℕ) : Type 0 where

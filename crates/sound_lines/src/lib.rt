@@ -8,18 +8,16 @@ ghost use mathlib.Core.Path.{_≡_};
 ghost use mathlib.Core.Bool.{_&&_};
 ghost use Prim.Native.Nat.{_+_, _-_, _≤_};
 ghost use lib.ListN.{length, take, drop};
-ghost use Rattle.program.specs.Test.{pick};
 ghost use Rattle.program.specs.Each.{collect};
 ghost use Rattle.program.specs.Program.{binders};
-ghost use lib.Dec.{eqb};
 ghost use Rattle.format.specs.Limits.{rowLimit};
 ghost use Rattle.format.specs.Structure.{notAllowed};
 ghost use Rattle.calls.specs.Layout.{memberLimit, storeSize, commsStart, claimsStart};
-ghost use Rattle.calls.specs.Canonical.{flagsSound, claimsSound};
+ghost use Rattle.calls.specs.Canonical.{flagsSound};
 ghost use Rattle.store.specs.Rows.{storeProgram};
 ghost use Rattle.store.specs.Document.{storeDocument};
 ghost use Rattle.seen.specs.Seen.{Marks};
-ghost use Rattle.sound_lines.specs.Sound.{within, setsSound, claimLimit, claimsWithin, NextKey, passes};
+ghost use Rattle.sound_lines.specs.Sound.{within, setsSound, claimLimit, claimsWithin, codesSound, NextKey, passes};
 
 // How far a byte is above its limit; 0 if it is not.
 fn excess(byte: u8, limit: u8) -> u8
@@ -94,8 +92,8 @@ fn claim_limit(chan: u8) -> u8
 
 // Whether each claim is on a chan row and has the code of a word. Every byte is looked at, so that the loop takes many at a time.
 fn claims_within(store: &[u8], chans: &[u8]) -> bool
-    requires { ⌜ (length (now store) ≡ storeSize) × (rowLimit ≤ length (now chans)) ⌝ }
-    ensures { λ b. ⌜ b ≡ claimsWithin (now (chans .entry)) 0 (drop claimsStart (now (store .entry))) ⌝ }
+    requires { ⌜ (storeSize ≤ length (now store)) × (rowLimit ≤ length (now chans)) ⌝ }
+    ensures { λ b. ⌜ b ≡ claimsWithin (now (chans .entry)) 0 (take rowLimit (drop claimsStart (now (store .entry)))) ⌝ }
 {
     let mut most = 0;
     let mut c = 0;
@@ -110,9 +108,9 @@ fn claims_within(store: &[u8], chans: &[u8]) -> bool
 
 // Whether the bytes of the sets and the claims are such as a load leaves, where the names that the rows bind are marked.
 pub fn lines_sound(store: &[u8], rows: u8, names: &[u8]) -> bool
-    requires { ⌜ (rows ≤ rowLimit) × (length (now store) ≡ storeSize) ⌝ }
+    requires { ⌜ (rows ≤ rowLimit) × (storeSize ≤ length (now store)) ⌝ }
     requires { ⌜ Marks (collect binders (storeProgram rows (now store))) (now names) ⌝ }
-    ensures { λ b. ⌜ b ≡ (flagsSound (now (store .entry)) && claimsSound (now (store .entry)) && passes (notAllowed (storeDocument rows (now (store .entry))))) ⌝ }
+    ensures { λ b. ⌜ b ≡ (flagsSound (now (store .entry)) && codesSound (now (store .entry)) && passes (notAllowed (storeDocument rows (now (store .entry))))) ⌝ }
 {
     let members = allowed_members(store, rows);
     let chans = chan_rows(store, rows);

@@ -1,14 +1,14 @@
 -- The refusals 6 to 9 by the numbers that the functions answer: a row below the count of rows, and a line that is not 0.
 use Prim.Native.Nat.{ℕ, _≤_, _<_}
 use native.Mathlib.Omega.{arith}
-use mathlib.Core.Bool.{Bool}
+use mathlib.Core.Bool.{Bool, true, _&&_, So, false≢true}
 use mathlib.Core.List.{List}
 use mathlib.Core.Option.{Option, none, some}
 use mathlib.Core.Path.{_≡_, refl, sym, ap}
 use borrow.Author.Tests.{lt-ltb, le-ltb}
 use Rattle.program.specs.Test.{least}
 use Rattle.program.specs.Maybe.{_>>=_, _<|>_}
-use Rattle.program.proofs.Test.{Least, none-passes, smallest, least-is}
+use Rattle.program.proofs.Test.{and-right, Least, none-passes, smallest, least-is}
 use Rattle.format.specs.declared.Refusal.{Refusal}
 use Rattle.format.specs.declared.Reason.the-variants.{WrongPointer, BoundTwice, OutOfScope, NotAllowed}
 use Rattle.format.specs.Limits.{rowLimit}
@@ -18,10 +18,12 @@ use Rattle.format.specs.Document.{Document}
 use Rattle.format.specs.Scope.{scopeFault}
 use Rattle.format.specs.Structure.{rowLine, pointerFault, binderFault, scopeLine, firstFailing, flowLine, commLine, claimLine, notAllowed, structureFault}
 use Rattle.format.proofs.First.{First, fails, first-is}
+use Rattle.calls.specs.Canonical.{flagsSound}
 use Rattle.store.specs.Rows.{storeProgram, rowOr}
 use Rattle.store.proofs.Laws.{program-length}
 use Rattle.store.specs.Document.{storeDocument}
 use Rattle.allowed.specs.Answer.{lineOr}
+use Rattle.sound_lines.specs.Sound.{codesSound, passes}
 use Rattle.structure.specs.declared.Structure.{Structure}
 use Rattle.structure.specs.declared.Structure.the-variants.{Sound, Refused}
 use Rattle.structure.specs.Answer.{treeFault}
@@ -137,6 +139,14 @@ module _ (n : ℕ) (s : Bytes) where
   pub tree-refused : {f : Refusal} → some f ≡ treeFault (storeProgram n s) → some f ≡ structureFault (storeDocument n s)
   unfolding _<|>_
   tree-refused e = rw (tree-then, ← e)
+
+  pub lines-pass : none ≡ treeFault (storeProgram n s) → So (flagsSound s && codesSound s && passes (notAllowed (storeDocument n s))) → none ≡ structureFault (storeDocument n s)
+  unfolding _<|>_ _>>=_
+  lines-pass sound t = rw (tree-then, ← sound, found (notAllowed (storeDocument n s)) (and-right (flagsSound s && codesSound s) _ t))
+    where
+      found : (o : Option ℕ) → passes o ≡ true → o ≡ none
+      found none e = refl
+      found (some l) e = absurd (false≢true e)
 
   module _ (sound : none ≡ treeFault (storeProgram n s)) {l : ℕ} (line : l ≡ lineOr (notAllowed (storeDocument n s))) where
     pub line-refused : (l ≡ 0 → ⊥) → some (refusal NotAllowed l) ≡ structureFault (storeDocument n s)

@@ -56,7 +56,7 @@ pub fn tree_fault(store: &[u8], rows: u8, names: &mut [u8; NUMBERS]) -> Structur
     Structure::Sound
 }
 
-// The first refusal of 6, 7, 8 and 9 of a store with this many rows.
+// The first refusal of 6, 7, 8 and 9 of a store with this many rows. The sets go line by line only where a line may be wrong.
 pub fn structure_fault(store: &[u8], rows: u8) -> Structure
     requires { ⌜ rows ≤ rowLimit ⌝ }
     requires { ⌜ storeSize ≤ length (now store) ⌝ }
@@ -67,6 +67,9 @@ pub fn structure_fault(store: &[u8], rows: u8) -> Structure
     let Structure::Sound = tree else {
         return tree;
     };
+    if sound_lines::lines_sound(store, rows, &names) {
+        return Structure::Sound;
+    }
     let line = allowed::not_allowed(store, rows, &names);
     if line != 0 {
         return Structure::Refused(Refusal {

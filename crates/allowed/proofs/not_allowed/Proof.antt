@@ -34,7 +34,13 @@ slice-aggregate-check-sets-3 : tie.Need-slice-aggregate-check-sets-3
 slice-aggregate-check-sets-3 c = search needs
 
 check-sets-requires-2 : tie.Need-check-sets-requires-2
-check-sets-requires-2 c κs = (omega arith, omega (arith, comm-line (c .before .before .before .before .before .before .before .before .before .before .before .args .rows) (c .before .before .before .before .before .before .before .before .before .before .before .args .store .now) (c .before .before .before .before .before .before .before .before .before .before .before .pre .1 .1 .tells) (c .before .before .before .before .before .before .before .chan-rows .ensures) (c .before .before .before .before .before .before .before .before .allowed-members .ensures) (c .before .before .before .before .before .check-sets .ensures) (c .before .before .before .comms .given .1)))
+check-sets-requires-2 c κs =
+    let at-comms = c .before .before .before in
+    let at-check-sets = at-comms .before .before in
+    let at-chan-rows = at-check-sets .before .before in
+    let at-allowed-members = at-chan-rows .before in
+    let start = at-allowed-members .before .before .before in
+    (omega arith, omega (arith, comm-line (start .args .rows) (start .args .store .now) (start .pre .1 .1 .tells) (at-chan-rows .chan-rows .ensures) (at-allowed-members .allowed-members .ensures) (at-check-sets .check-sets .ensures) (at-comms .comms .given .1)))
 
 enum-known-line-2 : tie.Need-enum-known-line-2
 enum-known-line-2 c = search needs
@@ -46,11 +52,19 @@ slice-aggregate-check-claims : tie.Need-slice-aggregate-check-claims
 slice-aggregate-check-claims c = search needs
 
 check-claims-requires : tie.Need-check-claims-requires
-check-claims-requires c κs = omega (
-  arith,
-  comm-line (c .before .before .before .before .before .before .before .before .before .before .before .before .before .before .before .before .args .rows) (c .before .before .before .before .before .before .before .before .before .before .before .before .before .before .before .before .args .store .now) (c .before .before .before .before .before .before .before .before .before .before .before .before .before .before .before .before .pre .1 .1 .tells) (c .before .before .before .before .before .before .before .before .before .before .before .before .chan-rows .ensures) (c .before .before .before .before .before .before .before .before .before .before .before .before .before .allowed-members .ensures) (c .before .before .before .before .before .before .before .before .before .before .check-sets .ensures) (c .before .before .before .before .before .before .before .before .comms .given .1),
-  claim-line (c .before .before .before .before .before .before .before .before .before .before .before .before .before .before .before .before .args .rows) (c .before .before .before .before .before .before .before .before .before .before .before .before .before .before .before .before .args .store .now) (c .before .before .before .before .before .before .before .before .before .before .before .before .before .before .before .before .pre .1 .1 .tells) (c .before .before .before .before .before .before .before .before .before .before .before .before .chan-rows .ensures) (c .before .before .before .before .before .before .before .before .before .before .before .before .before .allowed-members .ensures) (c .before .before .before .before .before .before .before .before .before .before .check-sets .ensures) (c .before .before .before .before .before .before .before .before .comms .given .1) (c .before .before .before .before .check-sets2 .ensures) (c .before .before .claims .given .1),
-)
+check-claims-requires c κs =
+    let at-claims = c .before .before in
+    let at-check-sets2 = at-claims .before .before in
+    let at-comms = at-check-sets2 .before .before .before .before in
+    let at-check-sets = at-comms .before .before in
+    let at-chan-rows = at-check-sets .before .before in
+    let at-allowed-members = at-chan-rows .before in
+    let start = at-allowed-members .before .before .before in
+    omega (
+      arith,
+      comm-line (start .args .rows) (start .args .store .now) (start .pre .1 .1 .tells) (at-chan-rows .chan-rows .ensures) (at-allowed-members .allowed-members .ensures) (at-check-sets .check-sets .ensures) (at-comms .comms .given .1),
+      claim-line (start .args .rows) (start .args .store .now) (start .pre .1 .1 .tells) (at-chan-rows .chan-rows .ensures) (at-allowed-members .allowed-members .ensures) (at-check-sets .check-sets .ensures) (at-comms .comms .given .1) (at-check-sets2 .check-sets2 .ensures) (at-claims .claims .given .1),
+    )
 
 enum-known-line-3 : tie.Need-enum-known-line-3
 enum-known-line-3 c = search needs
@@ -59,16 +73,46 @@ enum-told : tie.Need-enum-told
 enum-told c = search needs
 
 returns : tie.Need-returns
-returns c = flow-fails (c .before .before .before .before .before .before .before .before .before .args .rows) (c .before .before .before .before .before .before .before .before .before .args .store .now) (c .before .before .before .before .before .before .before .before .before .pre .1 .1 .tells) (c .before .before .before .before .before .chan-rows .ensures) (c .before .before .before .before .before .before .allowed-members .ensures) (c .before .before .before .check-sets .ensures) (c .before .line .given .1)
+returns c =
+    let at-check-sets = c .before .before .before in
+    let at-chan-rows = at-check-sets .before .before in
+    let at-allowed-members = at-chan-rows .before in
+    let start = at-allowed-members .before .before .before in
+    flow-fails (start .args .rows) (start .args .store .now) (start .pre .1 .1 .tells) (at-chan-rows .chan-rows .ensures) (at-allowed-members .allowed-members .ensures) (at-check-sets .check-sets .ensures) (c .before .line .given .1)
 
 returns-2 : tie.Need-returns-2
-returns-2 c = comm-fails (c .before .before .before .before .before .before .before .before .before .before .before .before .before .before .before .args .rows) (c .before .before .before .before .before .before .before .before .before .before .before .before .before .before .before .args .store .now) (c .before .before .before .before .before .before .before .before .before .before .before .before .before .before .before .pre .1 .1 .tells) (c .before .before .before .before .before .before .before .before .before .before .before .chan-rows .ensures) (c .before .before .before .before .before .before .before .before .before .before .before .before .allowed-members .ensures) (c .before .before .before .before .before .before .before .before .before .check-sets .ensures) (c .before .before .before .before .before .before .before .comms .given .1) (c .before .before .before .check-sets2 .ensures) (c .before .line2 .given .1)
+returns-2 c =
+    let at-check-sets2 = c .before .before .before in
+    let at-comms = at-check-sets2 .before .before .before .before in
+    let at-check-sets = at-comms .before .before in
+    let at-chan-rows = at-check-sets .before .before in
+    let at-allowed-members = at-chan-rows .before in
+    let start = at-allowed-members .before .before .before in
+    comm-fails (start .args .rows) (start .args .store .now) (start .pre .1 .1 .tells) (at-chan-rows .chan-rows .ensures) (at-allowed-members .allowed-members .ensures) (at-check-sets .check-sets .ensures) (at-comms .comms .given .1) (at-check-sets2 .check-sets2 .ensures) (c .before .line2 .given .1)
 
 returns-3 : tie.Need-returns-3
-returns-3 c = claim-fails (c .before .before .before .before .before .before .before .before .before .before .before .before .before .before .before .before .before .before .before .before .args .rows) (c .before .before .before .before .before .before .before .before .before .before .before .before .before .before .before .before .before .before .before .before .args .store .now) (c .before .before .before .before .before .before .before .before .before .before .before .before .before .before .before .before .before .before .before .before .pre .1 .1 .tells) (c .before .before .before .before .before .before .before .before .before .before .before .before .before .before .before .before .chan-rows .ensures) (c .before .before .before .before .before .before .before .before .before .before .before .before .before .before .before .before .before .allowed-members .ensures) (c .before .before .before .before .before .before .before .before .before .before .before .before .before .before .check-sets .ensures) (c .before .before .before .before .before .before .before .before .before .before .before .before .comms .given .1) (c .before .before .before .before .before .before .before .before .check-sets2 .ensures) (c .before .before .before .before .before .before .claims .given .1) (c .before .before .before .check-claims .ensures) (c .before .line3 .given .1)
+returns-3 c =
+    let at-check-claims = c .before .before .before in
+    let at-claims = at-check-claims .before .before .before in
+    let at-check-sets2 = at-claims .before .before in
+    let at-comms = at-check-sets2 .before .before .before .before in
+    let at-check-sets = at-comms .before .before in
+    let at-chan-rows = at-check-sets .before .before in
+    let at-allowed-members = at-chan-rows .before in
+    let start = at-allowed-members .before .before .before in
+    claim-fails (start .args .rows) (start .args .store .now) (start .pre .1 .1 .tells) (at-chan-rows .chan-rows .ensures) (at-allowed-members .allowed-members .ensures) (at-check-sets .check-sets .ensures) (at-comms .comms .given .1) (at-check-sets2 .check-sets2 .ensures) (at-claims .claims .given .1) (at-check-claims .check-claims .ensures) (c .before .line3 .given .1)
 
 returns-4 : tie.Need-returns-4
-returns-4 c = none-fails (c .before .before .before .before .before .before .before .before .before .before .before .before .before .before .before .before .before .before .before .args .rows) (c .before .before .before .before .before .before .before .before .before .before .before .before .before .before .before .before .before .before .before .args .store .now) (c .before .before .before .before .before .before .before .before .before .before .before .before .before .before .before .before .before .before .before .pre .1 .1 .tells) (c .before .before .before .before .before .before .before .before .before .before .before .before .before .before .before .chan-rows .ensures) (c .before .before .before .before .before .before .before .before .before .before .before .before .before .before .before .before .allowed-members .ensures) (c .before .before .before .before .before .before .before .before .before .before .before .before .before .check-sets .ensures) (c .before .before .before .before .before .before .before .before .before .before .before .comms .given .1) (c .before .before .before .before .before .before .before .check-sets2 .ensures) (c .before .before .before .before .before .claims .given .1) (c .before .before .check-claims .ensures) (c .enum-told .given .1)
+returns-4 c =
+    let at-check-claims = c .before .before in
+    let at-claims = at-check-claims .before .before .before in
+    let at-check-sets2 = at-claims .before .before in
+    let at-comms = at-check-sets2 .before .before .before .before in
+    let at-check-sets = at-comms .before .before in
+    let at-chan-rows = at-check-sets .before .before in
+    let at-allowed-members = at-chan-rows .before in
+    let start = at-allowed-members .before .before .before in
+    none-fails (start .args .rows) (start .args .store .now) (start .pre .1 .1 .tells) (at-chan-rows .chan-rows .ensures) (at-allowed-members .allowed-members .ensures) (at-check-sets .check-sets .ensures) (at-comms .comms .given .1) (at-check-sets2 .check-sets2 .ensures) (at-claims .claims .given .1) (at-check-claims .check-claims .ensures) (c .enum-told .given .1)
 
 pub not-allowed-spec : {M : Type 1} → statement M
 not-allowed-spec =

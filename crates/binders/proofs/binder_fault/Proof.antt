@@ -38,9 +38,14 @@ see-few-requires : tie.Need-see-few-requires Inv-loop μ-loop
 see-few-requires c κs = search needs
 
 returns : tie.Need-returns Inv-loop μ-loop
-returns c = let row = c .before .before .before .binders-of .ensures ∙ ap binders (c .before .before .before .before .row-at .ensures) in
-    let seen = binder-row _ _ _ (c .before .before .before .before .before .loop-test .taken) _ _ _ (c .before .see-few .ensures) row (c .before .before .before .before .before .before .loop .inv .1) in
-    (sym (first-row _ _ _ (c .before .before .before .before .before .loop-test .taken) (flag-set _ (λ e. c .if1 .taken (seen ∙ e))) (c .before .before .before .before .before .before .loop .inv .2)), λ l. absurd (omega arith))
+returns c =
+    let at-binders-of = c .before .before .before in
+    let at-row-at = at-binders-of .before in
+    let at-loop-test = at-row-at .before in
+    let at-loop = at-loop-test .before in
+    let row = at-binders-of .binders-of .ensures ∙ ap binders (at-row-at .row-at .ensures) in
+    let seen = binder-row _ _ _ (at-loop-test .loop-test .taken) _ _ _ (c .before .see-few .ensures) row (at-loop .loop .inv .1) in
+    (sym (first-row _ _ _ (at-loop-test .loop-test .taken) (flag-set _ (λ e. c .if1 .taken (seen ∙ e))) (at-loop .loop .inv .2)), λ l. absurd (omega arith))
 
 add-r : tie.Need-add-r Inv-loop μ-loop
 add-r c = search needs
@@ -49,12 +54,19 @@ loop-less : tie.Need-loop-less Inv-loop μ-loop
 loop-less c = search needs
 
 loop-again : tie.Need-loop-again Inv-loop μ-loop
-loop-again c = let row = c .before .before .before .binders-of .ensures ∙ ap binders (c .before .before .before .before .row-at .ensures) in
-    let seen = binder-row _ _ _ (c .before .before .before .before .before .loop-test .taken) _ _ _ (c .before .see-few .ensures) row (c .before .before .before .before .before .before .loop .inv .1) in
-    (omega arith, marks-row binders _ _ _ _ _ (c .before .see-few .ensures) row (c .before .before .before .before .before .before .loop .inv .1), below-more _ _ (c .before .before .before .before .before .before .loop .inv .2) (flag-clear _ (sym seen ∙ c .if1 .left)))
+loop-again c =
+    let at-binders-of = c .before .before .before in
+    let at-row-at = at-binders-of .before in
+    let at-loop-test = at-row-at .before in
+    let at-loop = at-loop-test .before in
+    let row = at-binders-of .binders-of .ensures ∙ ap binders (at-row-at .row-at .ensures) in
+    let seen = binder-row _ _ _ (at-loop-test .loop-test .taken) _ _ _ (c .before .see-few .ensures) row (at-loop .loop .inv .1) in
+    (omega arith, marks-row binders _ _ _ _ _ (c .before .see-few .ensures) row (at-loop .loop .inv .1), below-more _ _ (at-loop .loop .inv .2) (flag-clear _ (sym seen ∙ c .if1 .left)))
 
 returns-2 : tie.Need-returns-2 Inv-loop μ-loop
-returns-2 c = let e : c .before .loop .r ≡ c .before .before .before .args .rows = omega arith in (sym (no-row _ _ (rw e at (c .before .loop .inv .2))), λ l. rw e at (c .before .loop .inv .1))
+returns-2 c =
+    let start = c .before .before .before in
+    let e : c .before .loop .r ≡ start .args .rows = omega arith in (sym (no-row _ _ (rw e at (c .before .loop .inv .2))), λ l. rw e at (c .before .loop .inv .1))
 
 pub binder-fault-spec : {M : Type 1} → statement M
 binder-fault-spec =

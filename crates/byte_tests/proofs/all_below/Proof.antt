@@ -1,7 +1,7 @@
 -- `all_below` meets its contract: all bytes pass exactly if the largest of those before position i and all from there on pass.
 use Prim.Native.Nat.{_≤_, _-_}
 use mathlib.Core.Bool.{_&&_}
-use mathlib.Core.Path.{_≡_, sym, refl, _∙_}
+use mathlib.Core.Path.{_≡_, sym, _∙_}
 use native.Mathlib.Omega.{arith}
 use lib.ListN.{length, drop}
 use lib.Dec.{ltb}
@@ -37,10 +37,15 @@ loop-less : tie.Need-loop-less Inv-loop μ-loop
 loop-less c = search needs
 
 loop-again : tie.Need-loop-again Inv-loop μ-loop
-loop-again c = (omega arith, below-goes _ _ _ _ (c .before .before .loop-test .taken) (c .larger .ensures) ∙ c .before .before .before .loop .inv .1)
+loop-again c =
+    let at-loop-test = c .before .before in
+    let at-loop = at-loop-test .before in
+    (omega arith, below-goes _ _ _ _ (at-loop-test .loop-test .taken) (c .larger .ensures) ∙ at-loop .loop .inv .1)
 
 returns-2 : tie.Need-returns-2 Inv-loop μ-loop
-returns-2 c = sym (below-ends (c .before .before .before .before .args .bytes .now) (c .before .before .before .before .args .limit) (c .before .loop .i) (c .before .loop .most) (c .loop-test .left) (c .before .loop .inv .0)) ∙ c .before .loop .inv .1
+returns-2 c =
+    let start = c .before .before .before .before in
+    sym (below-ends (start .args .bytes .now) (start .args .limit) (c .before .loop .i) (c .before .loop .most) (c .loop-test .left) (c .before .loop .inv .0)) ∙ c .before .loop .inv .1
 
 pub all-below-spec : {M : Type 1} → statement M
 all-below-spec =

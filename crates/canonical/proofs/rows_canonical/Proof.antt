@@ -27,10 +27,18 @@ all-below-requires : tie.Need-all-below-requires
 all-below-requires c κs = search needs
 
 returns-2 : tie.Need-returns-2
-returns-2 c = c .all-below .ensures ∙ rest-decides (c .before .before .before .before .before .before .args .store .now) (c .before .before .before .before .before .before .args .rows) (c .before .before .before .before .if1 .left) (sym (c .before .before .before .rows-sound .ensures) ∙ c .before .before .if2 .taken)
+returns-2 c =
+    let at-if2 = c .before .before in
+    let at-rows-sound = at-if2 .before in
+    let at-if1 = at-rows-sound .before in
+    let start = at-if1 .before .before in
+    c .all-below .ensures ∙ rest-decides (start .args .store .now) (start .args .rows) (at-if1 .if1 .left) (sym (at-rows-sound .rows-sound .ensures) ∙ at-if2 .if2 .taken)
 
 returns-3 : tie.Need-returns-3
-returns-3 c = rows-unsound (c .before .before .before .before .args .store .now) (c .before .before .before .before .args .rows) (c .before .before .if1 .left) (sym (c .before .rows-sound .ensures) ∙ c .if2 .left)
+returns-3 c =
+    let at-if1 = c .before .before in
+    let start = at-if1 .before .before in
+    rows-unsound (start .args .store .now) (start .args .rows) (at-if1 .if1 .left) (sym (c .before .rows-sound .ensures) ∙ c .if2 .left)
 
 pub rows-canonical-spec : {M : Type 1} → statement M
 rows-canonical-spec =

@@ -8,13 +8,17 @@ shared-slice-read-if1 : tie.Need-shared-slice-read-if1
 shared-slice-read-if1 c = search needs
 
 returns : tie.Need-returns
-returns c = first-byte _ (c .before .before .before .pre) (c .if1 .taken)
+returns c =
+    let start = c .before .before .before in
+    first-byte _ (start .pre) (c .if1 .taken)
 
 all-zero-requires : tie.Need-all-zero-requires
 all-zero-requires c κs = search needs
 
 returns-2 : tie.Need-returns-2
-returns-2 c = all-zeros _ (c .before .before .before .before .pre) (c .all-zero .ensures)
+returns-2 c =
+    let start = c .before .before .before .before in
+    all-zeros _ (start .pre) (c .all-zero .ensures)
 
 pub is-empty-spec : {M : Type 1} → statement M
 is-empty-spec = tie.close (tie.spec shared-slice-read-if1 returns all-zero-requires returns-2)

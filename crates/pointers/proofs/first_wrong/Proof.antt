@@ -53,10 +53,20 @@ larger-requires-2 : tie.Need-larger-requires-2 Inv-loop μ-loop
 larger-requires-2 c κs = search needs
 
 returns : tie.Need-returns Inv-loop μ-loop
-returns c = let row = c .before .before .before .before .before .before .before .before .pointers-of .ensures ∙ ap pointers (c .before .before .before .before .before .before .before .before .before .row-at .ensures) in
-    let is = pointer-row _ _ _ (c .before .before .before .before .before .before .before .before .before .before .loop-test .taken) _ _ _ (c .before .before .before .before .before .before .see-few .ensures) row (c .before .before .before .before .before .before .before .before .before .before .before .loop .inv .1) (c .before .before .before .before .before .has-stray .ensures) (c .before .before .before .is-lost .ensures _ (c .before .before .before .before .before .before .before .before .before .before .before .before .pointed .ensures)) in
-    let found = c .before .larger2 .ensures ∙ ap (max _) (c .before .before .larger .ensures) in
-    sym (first-row _ _ _ (c .before .before .before .before .before .before .before .before .before .before .loop-test .taken) (flag-set _ (λ e. c .if1 .taken (found ∙ is ∙ e))) (c .before .before .before .before .before .before .before .before .before .before .before .loop .inv .2))
+returns c =
+    let at-larger = c .before .before in
+    let at-is-lost = at-larger .before in
+    let at-has-stray = at-is-lost .before .before in
+    let at-see-few = at-has-stray .before in
+    let at-pointers-of = at-see-few .before .before in
+    let at-row-at = at-pointers-of .before in
+    let at-loop-test = at-row-at .before in
+    let at-loop = at-loop-test .before in
+    let at-pointed = at-loop .before in
+    let row = at-pointers-of .pointers-of .ensures ∙ ap pointers (at-row-at .row-at .ensures) in
+    let is = pointer-row _ _ _ (at-loop-test .loop-test .taken) _ _ _ (at-see-few .see-few .ensures) row (at-loop .loop .inv .1) (at-has-stray .has-stray .ensures) (at-is-lost .is-lost .ensures _ (at-pointed .pointed .ensures)) in
+    let found = c .before .larger2 .ensures ∙ ap (max _) (at-larger .larger .ensures) in
+    sym (first-row _ _ _ (at-loop-test .loop-test .taken) (flag-set _ (λ e. c .if1 .taken (found ∙ is ∙ e))) (at-loop .loop .inv .2))
 
 add-r : tie.Need-add-r Inv-loop μ-loop
 add-r c = search needs
@@ -65,16 +75,28 @@ loop-less : tie.Need-loop-less Inv-loop μ-loop
 loop-less c = search needs
 
 loop-again : tie.Need-loop-again Inv-loop μ-loop
-loop-again c = let row = c .before .before .before .before .before .before .before .before .pointers-of .ensures ∙ ap pointers (c .before .before .before .before .before .before .before .before .before .row-at .ensures) in
-    let is = pointer-row _ _ _ (c .before .before .before .before .before .before .before .before .before .before .loop-test .taken) _ _ _ (c .before .before .before .before .before .before .see-few .ensures) row (c .before .before .before .before .before .before .before .before .before .before .before .loop .inv .1) (c .before .before .before .before .before .has-stray .ensures) (c .before .before .before .is-lost .ensures _ (c .before .before .before .before .before .before .before .before .before .before .before .before .pointed .ensures)) in
-    let found = c .before .larger2 .ensures ∙ ap (max _) (c .before .before .larger .ensures) in (
+loop-again c =
+    let at-larger = c .before .before in
+    let at-is-lost = at-larger .before in
+    let at-has-stray = at-is-lost .before .before in
+    let at-see-few = at-has-stray .before in
+    let at-pointers-of = at-see-few .before .before in
+    let at-row-at = at-pointers-of .before in
+    let at-loop-test = at-row-at .before in
+    let at-loop = at-loop-test .before in
+    let at-pointed = at-loop .before in
+    let row = at-pointers-of .pointers-of .ensures ∙ ap pointers (at-row-at .row-at .ensures) in
+    let is = pointer-row _ _ _ (at-loop-test .loop-test .taken) _ _ _ (at-see-few .see-few .ensures) row (at-loop .loop .inv .1) (at-has-stray .has-stray .ensures) (at-is-lost .is-lost .ensures _ (at-pointed .pointed .ensures)) in
+    let found = c .before .larger2 .ensures ∙ ap (max _) (at-larger .larger .ensures) in (
       omega arith,
-      marks-row pointers _ _ _ _ _ (c .before .before .before .before .before .before .see-few .ensures) row (c .before .before .before .before .before .before .before .before .before .before .before .loop .inv .1),
-      below-more _ _ (c .before .before .before .before .before .before .before .before .before .before .before .loop .inv .2) (flag-clear _ (sym (found ∙ is) ∙ c .if1 .left)),
+      marks-row pointers _ _ _ _ _ (at-see-few .see-few .ensures) row (at-loop .loop .inv .1),
+      below-more _ _ (at-loop .loop .inv .2) (flag-clear _ (sym (found ∙ is) ∙ c .if1 .left)),
     )
 
 returns-2 : tie.Need-returns-2 Inv-loop μ-loop
-returns-2 c = let e : c .before .loop .r ≡ c .before .before .before .before .args .rows = omega arith in sym (no-row _ _ (rw e at (c .before .loop .inv .2)))
+returns-2 c =
+    let start = c .before .before .before .before in
+    let e : c .before .loop .r ≡ start .args .rows = omega arith in sym (no-row _ _ (rw e at (c .before .loop .inv .2)))
 
 pub first-wrong-spec : {M : Type 1} → statement M
 first-wrong-spec =

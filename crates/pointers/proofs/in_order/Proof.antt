@@ -60,16 +60,27 @@ loop-less : tie.Need-loop-less Inv-loop μ-loop
 loop-less c = search needs
 
 loop-again : tie.Need-loop-again Inv-loop μ-loop
-loop-again c = let row = c .before .before .before .before .before .before .pointers-of .ensures ∙ ap pointers (c .before .before .before .before .before .before .before .row-at .ensures) in
-    let found = sym (c .before .larger2 .ensures ∙ ap (max _) (c .before .before .larger .ensures)) ∙ c .if1 .left in (
+loop-again c =
+    let at-larger = c .before .before in
+    let at-has-stray = at-larger .before in
+    let at-see-few = at-has-stray .before in
+    let at-pointers-of = at-see-few .before .before in
+    let at-row-at = at-pointers-of .before in
+    let at-is-lost = at-row-at .before in
+    let at-loop-test = at-is-lost .before .before in
+    let at-loop = at-loop-test .before in
+    let row = at-pointers-of .pointers-of .ensures ∙ ap pointers (at-row-at .row-at .ensures) in
+    let found = sym (c .before .larger2 .ensures ∙ ap (max _) (at-larger .larger .ensures)) ∙ c .if1 .left in (
       omega arith,
-      marks-row pointers _ _ _ _ _ (c .before .before .before .before .see-few .ensures) row (c .before .before .before .before .before .before .before .before .before .before .before .loop .inv .1),
-      below-more _ _ (c .before .before .before .before .before .before .before .before .before .before .before .loop .inv .2)
-          (row-in-order _ _ _ (c .before .before .before .before .before .before .before .before .before .before .loop-test .taken) _ _ _ (c .before .before .before .before .see-few .ensures) row (c .before .before .before .before .before .before .before .before .before .before .before .loop .inv .1) (c .before .before .before .has-stray .ensures) (c .before .before .before .before .before .before .before .before .is-lost .ensures _ (c .before .before .before .before .before .before .before .before .before .before .before .loop .inv .1)) found),
+      marks-row pointers _ _ _ _ _ (at-see-few .see-few .ensures) row (at-loop .loop .inv .1),
+      below-more _ _ (at-loop .loop .inv .2)
+          (row-in-order _ _ _ (at-loop-test .loop-test .taken) _ _ _ (at-see-few .see-few .ensures) row (at-loop .loop .inv .1) (at-has-stray .has-stray .ensures) (at-is-lost .is-lost .ensures _ (at-loop .loop .inv .1)) found),
     )
 
 returns-2 : tie.Need-returns-2 Inv-loop μ-loop
-returns-2 c = λ t. let e : c .before .loop .r ≡ c .before .before .before .args .rows = omega arith in no-row _ _ (rw e at (c .before .loop .inv .2))
+returns-2 c =
+    let start = c .before .before .before in
+    λ t. let e : c .before .loop .r ≡ start .args .rows = omega arith in no-row _ _ (rw e at (c .before .loop .inv .2))
 
 pub in-order-spec : {M : Type 1} → statement M
 in-order-spec =

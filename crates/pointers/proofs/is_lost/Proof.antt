@@ -15,10 +15,14 @@ element-copy-out-if2 : tie.Need-element-copy-out-if2
 element-copy-out-if2 c = search needs
 
 returns-2 : tie.Need-returns-2
-returns-2 c = λ xs m. rw (lt-ltb 0 (c .before .before .before .args .r) (omega arith), flag-clear (elem (c .before .before .before .args .r) xs) (sym (m .tells .at (c .before .before .before .args .r)) ∙ c .if2 .taken))
+returns-2 c =
+    let start = c .before .before .before in
+    λ xs m. rw (lt-ltb 0 (start .args .r) (omega arith), flag-clear (elem (start .args .r) xs) (sym (m .tells .at (start .args .r)) ∙ c .if2 .taken))
 
 returns-3 : tie.Need-returns-3
-returns-3 c = λ xs m. rw (lt-ltb 0 (c .before .before .before .args .r) (omega arith), flag-set (elem (c .before .before .before .args .r) xs) (λ e. c .if2 .left (m .tells .at (c .before .before .before .args .r) ∙ e)))
+returns-3 c =
+    let start = c .before .before .before in
+    λ xs m. rw (lt-ltb 0 (start .args .r) (omega arith), flag-set (elem (start .args .r) xs) (λ e. c .if2 .left (m .tells .at (start .args .r) ∙ e)))
 
 pub is-lost-spec : {M : Type 1} → statement M
 is-lost-spec = tie.close (tie.spec returns element-copy-out-if2 returns-2 returns-3)

@@ -40,10 +40,16 @@ loop-less : tie.Need-loop-less Inv-loop μ-loop
 loop-less c = search needs
 
 loop-again : tie.Need-loop-again Inv-loop μ-loop
-loop-again c = (omega arith, marks-row pointers _ _ _ _ _ (c .see-few .ensures) (c .before .before .pointers-of .ensures ∙ ap pointers (c .before .before .before .row-at .ensures)) (c .before .before .before .before .before .loop .inv .1))
+loop-again c =
+    let at-pointers-of = c .before .before in
+    let at-row-at = at-pointers-of .before in
+    let at-loop = at-row-at .before .before in
+    (omega arith, marks-row pointers _ _ _ _ _ (c .see-few .ensures) (at-pointers-of .pointers-of .ensures ∙ ap pointers (at-row-at .row-at .ensures)) (at-loop .loop .inv .1))
 
 returns : tie.Need-returns Inv-loop μ-loop
-returns c = let e : c .before .loop .r ≡ c .before .before .before .args .rows = omega arith in rw e at (c .before .loop .inv .1)
+returns c =
+    let start = c .before .before .before in
+    let e : c .before .loop .r ≡ start .args .rows = omega arith in rw e at (c .before .loop .inv .1)
 
 pub pointed-spec : {M : Type 1} → statement M
 pointed-spec =

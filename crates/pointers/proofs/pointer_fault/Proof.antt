@@ -1,5 +1,5 @@
 -- `pointer_fault` meets its contract: rows that are in order have no fault.
-use mathlib.Core.Path.{sym, _∙_}
+use mathlib.Core.Path.{sym}
 use borrow.Author.Needs.{needs}
 use Rattle.pointers.proofs.pointer_fault.Statement.{statement}
 use Rattle.pointers.proofs.pointer_fault.Tie as tie

@@ -47,13 +47,23 @@ returns : tie.Need-returns
 returns c = rw (c .enum-told .given .1) (adds-none _)
 
 returns-2 : tie.Need-returns-2
-returns-2 c = rw (c .before .before .before .few .given .1) (c .see .ensures)
+returns-2 c =
+    let at-few = c .before .before .before in
+    rw (at-few .few .given .1) (c .see .ensures)
 
 returns-3 : tie.Need-returns-3
-returns-3 c = rw (c .before .before .before .before .before .before .few2 .given .1) (adds-then (c .before .before .before .see2 .ensures) (c .before .see3 .ensures) (c .larger .ensures))
+returns-3 c =
+    let at-see2 = c .before .before .before in
+    let at-few2 = at-see2 .before .before .before in
+    rw (at-few2 .few2 .given .1) (adds-then (at-see2 .see2 .ensures) (c .before .see3 .ensures) (c .larger .ensures))
 
 returns-4 : tie.Need-returns-4
-returns-4 c = rw (c .before .before .before .before .before .before .before .before .before .few3 .given .1) (adds-then (c .before .before .before .before .before .before .see4 .ensures) (adds-then (c .before .before .before .before .see5 .ensures) (c .before .before .see6 .ensures) (c .before .larger2 .ensures)) (c .larger3 .ensures))
+returns-4 c =
+    let at-see6 = c .before .before in
+    let at-see5 = at-see6 .before .before in
+    let at-see4 = at-see5 .before .before in
+    let at-few3 = at-see4 .before .before .before in
+    rw (at-few3 .few3 .given .1) (adds-then (at-see4 .see4 .ensures) (adds-then (at-see5 .see5 .ensures) (at-see6 .see6 .ensures) (c .before .larger2 .ensures)) (c .larger3 .ensures))
 
 pub see-few-spec : {M : Type 1} → statement M
 see-few-spec =

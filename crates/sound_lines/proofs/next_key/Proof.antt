@@ -23,7 +23,9 @@ shared-slice-read-if1 : tie.Need-shared-slice-read-if1 Inv-loop μ-loop
 shared-slice-read-if1 c = search needs
 
 returns : tie.Need-returns Inv-loop μ-loop
-returns c = record { from = c .before .before .before .loop .inv .0; last = c .before .before .before .loop .inv .1; clear = c .before .before .before .loop .inv .2; marked = λ l. c .if1 .taken }
+returns c =
+    let at-loop = c .before .before .before in
+    record { from = at-loop .loop .inv .0; last = at-loop .loop .inv .1; clear = at-loop .loop .inv .2; marked = λ l. c .if1 .taken }
 
 add-k : tie.Need-add-k Inv-loop μ-loop
 add-k c = search needs
@@ -32,7 +34,10 @@ loop-less : tie.Need-loop-less Inv-loop μ-loop
 loop-less c = search needs
 
 loop-again : tie.Need-loop-again Inv-loop μ-loop
-loop-again c = (omega arith, omega arith, clear-more (c .before .before .before .before .args .keys .now) _ _ (c .before .before .before .loop .inv .2) (c .if1 .left))
+loop-again c =
+    let at-loop = c .before .before .before in
+    let start = at-loop .before in
+    (omega arith, omega arith, clear-more (start .args .keys .now) _ _ (at-loop .loop .inv .2) (c .if1 .left))
 
 returns-2 : tie.Need-returns-2 Inv-loop μ-loop
 returns-2 c = record { from = c .before .loop .inv .0; last = c .before .loop .inv .1; clear = c .before .loop .inv .2; marked = λ l. absurd (omega arith) }

@@ -45,10 +45,16 @@ loop-less : tie.Need-loop-less Inv-loop μ-loop
 loop-less c = search needs
 
 loop-again : tie.Need-loop-again Inv-loop μ-loop
-loop-again c = (omega arith, within-goes (c .before .before .before .before .before .before .before .before .args .store .now) (c .before .before .before .before .before .before .before .before .args .members .now) (c .before .before .before .before .before .before .before .before .args .at) _ _ (c .before .before .before .before .loop-test .taken) (omega arith) (c .before .excess .ensures) (c .larger .ensures) ∙ c .before .before .before .before .before .loop .inv .1)
+loop-again c =
+    let at-loop-test = c .before .before .before .before in
+    let at-loop = at-loop-test .before in
+    let start = at-loop .before .before .before in
+    (omega arith, within-goes (start .args .store .now) (start .args .members .now) (start .args .at) _ _ (at-loop-test .loop-test .taken) (omega arith) (c .before .excess .ensures) (c .larger .ensures) ∙ at-loop .loop .inv .1)
 
 returns : tie.Need-returns Inv-loop μ-loop
-returns c = sym (within-ends (c .before .before .before .before .args .store .now) (c .before .before .before .before .args .members .now) (c .before .before .before .before .args .at) (c .before .loop .m) (c .before .loop .most) (c .loop-test .left)) ∙ c .before .loop .inv .1
+returns c =
+    let start = c .before .before .before .before in
+    sym (within-ends (start .args .store .now) (start .args .members .now) (start .args .at) (c .before .loop .m) (c .before .loop .most) (c .loop-test .left)) ∙ c .before .loop .inv .1
 
 pub set-within-spec : {M : Type 1} → statement M
 set-within-spec =

@@ -19,7 +19,9 @@ abbrev μ-loop : tie.MeasureT-loop
 μ-loop store base keys members n₀ n = rowLimit - n
 
 loop-holds : tie.Need-loop-holds Inv-loop μ-loop
-loop-holds c = (omega arith, sets-begin (c .before .before .before .args .store .now) (c .before .before .before .args .keys .now) (c .before .before .before .args .members .now) (c .before .before .before .args .base))
+loop-holds c =
+    let start = c .before .before .before in
+    (omega arith, sets-begin (start .args .store .now) (start .args .keys .now) (start .args .members .now) (start .args .base))
 
 next-key-requires : tie.Need-next-key-requires Inv-loop μ-loop
 next-key-requires c κs = (omega arith, omega arith)
@@ -49,28 +51,55 @@ all-below-requires : tie.Need-all-below-requires Inv-loop μ-loop
 all-below-requires c κs = search needs
 
 returns : tie.Need-returns Inv-loop μ-loop
-returns c = between-fails (c .before .before .before .before .before .before .before .before .before .args .store .now) (c .before .before .before .before .before .before .before .before .before .args .keys .now) (c .before .before .before .before .before .before .before .before .before .args .members .now) (c .before .before .before .before .before .before .before .before .before .args .base) (c .before .before .before .next-key .ensures) (sym (c .before .all-below .ensures) ∙ not-true _ (c .if1 .taken)) ∙ c .before .before .before .before .before .loop .inv .1
+returns c =
+    let at-next-key = c .before .before .before in
+    let at-loop = at-next-key .before .before in
+    let start = at-loop .before .before .before .before in
+    between-fails (start .args .store .now) (start .args .keys .now) (start .args .members .now) (start .args .base) (at-next-key .next-key .ensures) (sym (c .before .all-below .ensures) ∙ not-true _ (c .if1 .taken)) ∙ at-loop .loop .inv .1
 
 returns-2 : tie.Need-returns-2 Inv-loop μ-loop
-returns-2 c = between-ends (c .before .before .before .before .before .before .before .before .before .before .args .store .now) (c .before .before .before .before .before .before .before .before .before .before .args .keys .now) (c .before .before .before .before .before .before .before .before .before .before .args .members .now) (c .before .before .before .before .before .before .before .before .before .before .args .base) (c .before .before .before .before .next-key .ensures) (sym (c .before .before .all-below .ensures) ∙ not-false _ (c .before .if1 .left)) (c .if2 .taken) ∙ c .before .before .before .before .before .before .loop .inv .1
+returns-2 c =
+    let at-all-below = c .before .before in
+    let at-next-key = at-all-below .before .before in
+    let at-loop = at-next-key .before .before in
+    let start = at-loop .before .before .before .before in
+    between-ends (start .args .store .now) (start .args .keys .now) (start .args .members .now) (start .args .base) (at-next-key .next-key .ensures) (sym (at-all-below .all-below .ensures) ∙ not-false _ (c .before .if1 .left)) (c .if2 .taken) ∙ at-loop .loop .inv .1
 
 set-within-requires : tie.Need-set-within-requires Inv-loop μ-loop
 set-within-requires c κs = (omega arith, (omega arith, omega arith))
 
 returns-3 : tie.Need-returns-3 Inv-loop μ-loop
-returns-3 c = set-fails (c .before .before .before .before .before .before .before .before .before .before .before .before .args .store .now) (c .before .before .before .before .before .before .before .before .before .before .before .before .args .keys .now) (c .before .before .before .before .before .before .before .before .before .before .before .before .args .members .now) (c .before .before .before .before .before .before .before .before .before .before .before .before .args .base) (c .before .before .before .before .before .before .next-key .ensures) (sym (c .before .before .before .before .all-below .ensures) ∙ not-false _ (c .before .before .before .if1 .left)) (c .before .before .if2 .left) (sym (c .before .set-within .ensures) ∙ not-true _ (c .if3 .taken)) ∙ c .before .before .before .before .before .before .before .before .loop .inv .1
+returns-3 c =
+    let at-if2 = c .before .before in
+    let at-if1 = at-if2 .before in
+    let at-all-below = at-if1 .before in
+    let at-next-key = at-all-below .before .before in
+    let at-loop = at-next-key .before .before in
+    let start = at-loop .before .before .before .before in
+    set-fails (start .args .store .now) (start .args .keys .now) (start .args .members .now) (start .args .base) (at-next-key .next-key .ensures) (sym (at-all-below .all-below .ensures) ∙ not-false _ (at-if1 .if1 .left)) (at-if2 .if2 .left) (sym (c .before .set-within .ensures) ∙ not-true _ (c .if3 .taken)) ∙ at-loop .loop .inv .1
 
 add-n : tie.Need-add-n Inv-loop μ-loop
 add-n c = search needs
 
 loop-less : tie.Need-loop-less Inv-loop μ-loop
-loop-less c = omega (arith, c .before .before .before .before .before .before .next-key .ensures .from)
+loop-less c =
+    let at-next-key = c .before .before .before .before .before .before in
+    omega (arith, at-next-key .next-key .ensures .from)
 
 loop-again : tie.Need-loop-again Inv-loop μ-loop
-loop-again c = (omega arith, sym (set-passes (c .before .before .before .before .before .before .before .before .before .before .before .before .args .store .now) (c .before .before .before .before .before .before .before .before .before .before .before .before .args .keys .now) (c .before .before .before .before .before .before .before .before .before .before .before .before .args .members .now) (c .before .before .before .before .before .before .before .before .before .before .before .before .args .base) (c .before .before .before .before .before .before .next-key .ensures) (sym (c .before .before .before .before .all-below .ensures) ∙ not-false _ (c .before .before .before .if1 .left)) (c .before .before .if2 .left) (sym (c .before .set-within .ensures) ∙ not-false _ (c .if3 .left))) ∙ c .before .before .before .before .before .before .before .before .loop .inv .1)
+loop-again c =
+    let at-if2 = c .before .before in
+    let at-if1 = at-if2 .before in
+    let at-all-below = at-if1 .before in
+    let at-next-key = at-all-below .before .before in
+    let at-loop = at-next-key .before .before in
+    let start = at-loop .before .before .before .before in
+    (omega arith, sym (set-passes (start .args .store .now) (start .args .keys .now) (start .args .members .now) (start .args .base) (at-next-key .next-key .ensures) (sym (at-all-below .all-below .ensures) ∙ not-false _ (at-if1 .if1 .left)) (at-if2 .if2 .left) (sym (c .before .set-within .ensures) ∙ not-false _ (c .if3 .left))) ∙ at-loop .loop .inv .1)
 
 returns-4 : tie.Need-returns-4 Inv-loop μ-loop
-returns-4 c = sym (none-left (c .before .before .before .before .before .args .store .now) (c .before .before .before .before .before .args .keys .now) (c .before .before .before .before .before .args .members .now) (c .before .before .before .before .before .args .base) (c .before .loop .n) (c .loop-test .left)) ∙ c .before .loop .inv .1
+returns-4 c =
+    let start = c .before .before .before .before .before in
+    sym (none-left (start .args .store .now) (start .args .keys .now) (start .args .members .now) (start .args .base) (c .before .loop .n) (c .loop-test .left)) ∙ c .before .loop .inv .1
 
 pub sets-sound-spec : {M : Type 1} → statement M
 sets-sound-spec =

@@ -11,7 +11,10 @@ at-row-requires : tie.Need-at-row-requires
 at-row-requires c κs = search needs
 
 returns : tie.Need-returns
-returns c = (rw (c .at-row .ensures) (pointer-refused _ _ (c .before .before .before .before .pre .0) (c .before .before .pointer-fault .ensures) (c .before .if1 .taken)), refused-sound (c .at-row .ensures))
+returns c =
+    let at-pointer-fault = c .before .before in
+    let start = at-pointer-fault .before .before in
+    (rw (c .at-row .ensures) (pointer-refused _ _ (start .pre .0) (at-pointer-fault .pointer-fault .ensures) (c .before .if1 .taken)), refused-sound (c .at-row .ensures))
 
 binder-fault-requires : tie.Need-binder-fault-requires
 binder-fault-requires c κs = search needs
@@ -20,7 +23,12 @@ at-row-requires-2 : tie.Need-at-row-requires-2
 at-row-requires-2 c κs = search needs
 
 returns-2 : tie.Need-returns-2
-returns-2 c = (rw (c .at-row2 .ensures) (binder-refused _ _ (c .before .before .before .before .before .before .before .pre .0) (c .before .before .before .before .before .pointer-fault .ensures) (c .before .before .before .before .if1 .left) (c .before .before .binder-fault .ensures .0) (c .before .if2 .taken)), refused-sound (c .at-row2 .ensures))
+returns-2 c =
+    let at-binder-fault = c .before .before in
+    let at-if1 = at-binder-fault .before .before in
+    let at-pointer-fault = at-if1 .before in
+    let start = at-pointer-fault .before .before in
+    (rw (c .at-row2 .ensures) (binder-refused _ _ (start .pre .0) (at-pointer-fault .pointer-fault .ensures) (at-if1 .if1 .left) (at-binder-fault .binder-fault .ensures .0) (c .before .if2 .taken)), refused-sound (c .at-row2 .ensures))
 
 scope-fault-requires : tie.Need-scope-fault-requires
 scope-fault-requires c κs = search needs
@@ -29,10 +37,23 @@ at-row-requires-3 : tie.Need-at-row-requires-3
 at-row-requires-3 c κs = search needs
 
 returns-3 : tie.Need-returns-3
-returns-3 c = (rw (c .at-row3 .ensures) (scope-refused _ _ (c .before .before .before .before .before .before .before .before .before .pre .0) (c .before .before .before .before .before .before .before .pointer-fault .ensures) (c .before .before .before .before .before .before .if1 .left) (c .before .before .before .before .binder-fault .ensures .0) (c .before .before .before .if2 .left) (c .before .before .scope-fault .ensures) (c .before .if3 .taken)), refused-sound (c .at-row3 .ensures))
+returns-3 c =
+    let at-scope-fault = c .before .before in
+    let at-if2 = at-scope-fault .before in
+    let at-binder-fault = at-if2 .before in
+    let at-if1 = at-binder-fault .before .before in
+    let at-pointer-fault = at-if1 .before in
+    let start = at-pointer-fault .before .before in
+    (rw (c .at-row3 .ensures) (scope-refused _ _ (start .pre .0) (at-pointer-fault .pointer-fault .ensures) (at-if1 .if1 .left) (at-binder-fault .binder-fault .ensures .0) (at-if2 .if2 .left) (at-scope-fault .scope-fault .ensures) (c .before .if3 .taken)), refused-sound (c .at-row3 .ensures))
 
 returns-4 : tie.Need-returns-4
-returns-4 c = (tree-sound _ _ (c .before .before .before .before .before .before .before .before .pre .0) (c .before .before .before .before .before .before .pointer-fault .ensures) (c .before .before .before .before .before .if1 .left) (c .before .before .before .binder-fault .ensures .0) (c .before .before .if2 .left) (c .before .scope-fault .ensures) (c .if3 .left), λ e. c .before .before .before .binder-fault .ensures .1 (c .before .before .if2 .left))
+returns-4 c =
+    let at-if2 = c .before .before in
+    let at-binder-fault = at-if2 .before in
+    let at-if1 = at-binder-fault .before .before in
+    let at-pointer-fault = at-if1 .before in
+    let start = at-pointer-fault .before .before in
+    (tree-sound _ _ (start .pre .0) (at-pointer-fault .pointer-fault .ensures) (at-if1 .if1 .left) (at-binder-fault .binder-fault .ensures .0) (at-if2 .if2 .left) (c .before .scope-fault .ensures) (c .if3 .left), λ e. at-binder-fault .binder-fault .ensures .1 (at-if2 .if2 .left))
 
 pub tree-fault-spec : {M : Type 1} → statement M
 tree-fault-spec =
