@@ -28,14 +28,7 @@ ghost use Rattle.verdicts.specs.Ready.{Ready};
 
 // What is found of the walks that come to the marked places, where `comes` marks the rows that their shared beginnings come to, by the list
 // of the spawns.
-fn ends_of(
-    store: &[u8],
-    rows: u8,
-    grid: &[u8],
-    spawns: &[u8],
-    comes: &[u8],
-    places: &[u8],
-) -> Ends
+fn ends_of(store: &[u8], rows: u8, grid: &[u8], spawns: &[u8], comes: &[u8], places: &[u8]) -> Ends
     requires { ⌜ (rows ≤ rowLimit) × (gridSize ≤ length (now grid)) × (rowLimit ≤ length (now comes)) × (rowLimit ≤ length (now places)) ⌝ }
     requires { ⌜ Shows (reach (storeProgram rows (now store)) (storeFlow (now store))) (now grid) ⌝ }
     requires { ⌜ Lists rows (ofKind (now store) 10) (now spawns) ⌝ }
@@ -114,17 +107,7 @@ pub fn word_holds(
     requires { ⌜ Ready rows (now store) (now grid) (now comes) (now sends) (now receives) (now syncs) (now spawns) ⌝ }
     ensures { λ b. ⌜ b ≡ wordIn (storeProgram rows (now (store .entry))) (storeFlow (now (store .entry))) c word ⌝ }
 {
-    let found = channel_facts(
-        store,
-        rows,
-        grid,
-        comes,
-        sends,
-        receives,
-        syncs,
-        spawns,
-        c,
-    );
+    let found = channel_facts(store, rows, grid, comes, sends, receives, syncs, spawns, c);
     says(word, found)
 }
 

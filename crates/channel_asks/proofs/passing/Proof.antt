@@ -54,10 +54,11 @@ loop-less : tie.Need-loop-less Inv-loop μ-loop
 loop-less c = search needs
 
 loop-again : tie.Need-loop-again Inv-loop μ-loop
-loop-again c = let at = c .before .before .before .before .before .before .before .before .pre .1 .rows (c .before .before .before .loop .i) (omega (arith, c .before .before .before .before .byte-at .ensures)) in
-    (omega arith,
-    fails-more (now (c .before .before .before .before .before .before .before .before .args .chans)) _ _ (c .before .byte-at2 .ensures) (omega (arith, c .before .byte-at2 .ensures, at .0, c .before .before .before .before .before .before .before .before .pre .0 .few))
-    (bool-byte _ ∙ c .chan-meets .ensures ∙ chan-here _ _ _ _ _ (rw (c .before .byte-at2 .ensures) (at .0)) (rw (c .before .byte-at2 .ensures) (at .1))) (c .before .before .before .loop .inv .1))
+loop-again c = let at = c .before .before .before .before .before .before .before .before .pre .1 .rows (c .before .before .before .loop .i) (omega (arith, c .before .before .before .before .byte-at .ensures)) in (
+  omega arith,
+  fails-more (now (c .before .before .before .before .before .before .before .before .args .chans)) _ _ (c .before .byte-at2 .ensures) (omega (arith, c .before .byte-at2 .ensures, at .0, c .before .before .before .before .before .before .before .before .pre .0 .few))
+      (bool-byte _ ∙ c .chan-meets .ensures ∙ chan-here _ _ _ _ _ (rw (c .before .byte-at2 .ensures) (at .0)) (rw (c .before .byte-at2 .ensures) (at .1))) (c .before .before .before .loop .inv .1),
+)
 
 returns : tie.Need-returns Inv-loop μ-loop
 returns c = fails-all _ (omega (arith, c .before .before .byte-at .ensures)) (c .before .before .before .before .before .before .pre .1) (λ q l h. chan-other _ _ _ _ q l h) (c .before .loop .inv .1)

@@ -38,17 +38,21 @@ rows-of-kind-requires-4 : tie.Need-rows-of-kind-requires-4 Inv-loop μ-loop
 rows-of-kind-requires-4 c κs = search needs
 
 loop-holds : tie.Need-loop-holds Inv-loop μ-loop
-loop-holds c = (omega arith, omega arith, held-start _ (c .before .before .before .before .before .before .before .args .store .now) claimsStart _,
-    record {
-      few = c .before .before .before .before .before .before .before .pre .0 .0;
-      room = c .before .before .before .before .before .before .before .pre .0 .1;
-      shows = c .before .before .before .before .before .before .before .pre .1;
-      reached = c .before .before .before .before .reached-rows .ensures;
-      sending = c .before .before .before .rows-of-kind .ensures;
-      receiving = c .before .before .rows-of-kind2 .ensures;
-      syncing = c .before .rows-of-kind3 .ensures;
-      spawning = c .rows-of-kind4 .ensures;
-    })
+loop-holds c = (
+  omega arith,
+  omega arith,
+  held-start _ (c .before .before .before .before .before .before .before .args .store .now) claimsStart _,
+  record {
+    few = c .before .before .before .before .before .before .before .pre .0 .0;
+    room = c .before .before .before .before .before .before .before .pre .0 .1;
+    shows = c .before .before .before .before .before .before .before .pre .1;
+    reached = c .before .before .before .before .reached-rows .ensures;
+    sending = c .before .before .before .rows-of-kind .ensures;
+    receiving = c .before .before .rows-of-kind2 .ensures;
+    syncing = c .before .rows-of-kind3 .ensures;
+    spawning = c .rows-of-kind4 .ensures;
+  },
+)
 
 add-byte-at : tie.Need-add-byte-at Inv-loop μ-loop
 add-byte-at c = search needs

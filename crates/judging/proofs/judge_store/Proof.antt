@@ -32,9 +32,9 @@ same-length c = search needs
 
 returns-2 : tie.Need-returns-2
 returns-2 c = record {
-      answer-is = judge-goes _ _ (c .before .before .before .before .before .before .before .before .before .before .before .pre .1 .0) (c .before .before .before .before .before .before .before .before .before .before .before .pre .0) (c .before .before .before .before .before .before .before .before .failing-row .ensures) (c .before .before .before .before .before .before .before .if1 .left) (c .before .judge-claims .ensures .0) (c .claims-answer .ensures);
-      grid-shows = λ k e. c .before .before .before .before .before .fill-reach .ensures .shows;
-    }
+  answer-is = judge-goes _ _ (c .before .before .before .before .before .before .before .before .before .before .before .pre .1 .0) (c .before .before .before .before .before .before .before .before .before .before .before .pre .0) (c .before .before .before .before .before .before .before .before .failing-row .ensures) (c .before .before .before .before .before .before .before .if1 .left) (c .before .judge-claims .ensures .0) (c .claims-answer .ensures);
+  grid-shows = λ k e. c .before .before .before .before .before .fill-reach .ensures .shows;
+}
 
 pub judge-store-spec : {M : Type 1} → statement M
 judge-store-spec =

@@ -61,8 +61,11 @@ loop-less : tie.Need-loop-less Inv-loop μ-loop
 loop-less c = search needs
 
 loop-again : tie.Need-loop-again Inv-loop μ-loop
-loop-again c = (omega arith, simp length-set (c .before .before .before .before .loop .inv .1),
-    λ side h. of-more (now (c .before .before .before .before .before .before .before .before .before .before .args .syncs)) _ _ (c .before .before .byte-at2 .ensures) (omega (arith, c .before .before .byte-at2 .ensures, c .before .before .before .before .before .before .before .before .before .before .pre .1 .1 .rows (c .before .before .before .before .loop .i) (omega (arith, c .before .before .before .before .before .byte-at .ensures)) .0)) (bool-byte _ ∙ c .is-place .ensures side _ h) (c .before .before .before .before .loop .inv .2 side h))
+loop-again c = (
+  omega arith,
+  simp length-set (c .before .before .before .before .loop .inv .1),
+  λ side h. of-more (now (c .before .before .before .before .before .before .before .before .before .before .args .syncs)) _ _ (c .before .before .byte-at2 .ensures) (omega (arith, c .before .before .byte-at2 .ensures, c .before .before .before .before .before .before .before .before .before .before .pre .1 .1 .rows (c .before .before .before .before .loop .i) (omega (arith, c .before .before .before .before .before .byte-at .ensures)) .0)) (bool-byte _ ∙ c .is-place .ensures side _ h) (c .before .before .before .before .loop .inv .2 side h),
+)
 
 returns : tie.Need-returns Inv-loop μ-loop
 returns c = of-all _ _ _ _ (omega (arith, c .before .before .byte-at .ensures)) (c .before .before .before .before .before .before .before .pre .1 .1) (c .before .loop .inv .2 _ (c .before .before .before .events .ensures))
