@@ -11,7 +11,7 @@ ghost use Rattle.format.specs.Limits.{rowLimit};
 ghost use Rattle.grids.specs.Grid.{gridSize, step, Follows, Closes};
 ghost use Rattle.grids.specs.Rounds.{RowIs, RowChanged, RowPassed, AllPassed};
 
-// Row k of the grid. It is read from this copy while the grid is written, so that the loop over a row takes many bytes at a time.
+// Row k of the grid, all of it. It is read from this copy while the grid is written, so that the loop over a row takes many bytes at a time.
 fn row_of(grid: &[u8], n: usize, k: usize) -> [u8; Store::ROWS]
     requires { ⌜ (n ≤ rowLimit) × (k < n) × (gridSize ≤ length (now grid)) ⌝ }
     ensures { λ row. ⌜ RowIs n (now (grid .entry)) k row ⌝ }
@@ -19,7 +19,7 @@ fn row_of(grid: &[u8], n: usize, k: usize) -> [u8; Store::ROWS]
     let b = k * Store::ROWS;
     let mut row = [0u8; Store::ROWS];
     let mut j = 0;
-    while j < n {
+    while j < Store::ROWS {
         row[j] = grid[b + j];
         j += 1;
     }

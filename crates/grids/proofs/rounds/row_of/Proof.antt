@@ -13,10 +13,10 @@ use Rattle.grids.proofs.rounds.row_of.Tie as tie
 
 abbrev Inv-loop : tie.InvT-loop
 Inv-loop grid n k b row₀ j₀ row j =
-    (j ≤ n) × ((length row ≡ rowLimit) × ((c : ℕ) → c < j → getD row c 0 ≡ rowByte grid k c))
+    (j ≤ rowLimit) × ((length row ≡ rowLimit) × ((c : ℕ) → c < j → getD row c 0 ≡ rowByte grid k c))
 
 abbrev μ-loop : tie.MeasureT-loop
-μ-loop grid n k b row₀ j₀ row j = n - j
+μ-loop grid n k b row₀ j₀ row j = rowLimit - j
 
 mul-b : tie.Need-mul-b Inv-loop μ-loop
 mul-b c = search needs
