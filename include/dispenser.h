@@ -21,6 +21,12 @@
  *   report accepted   the bytes written
  *   begin, move and meet accepted
  *                     the number of threads then in use
+ *
+ * Stack, on x86-64 and whatever a call is lent: load, write, replace, begin, move
+ * and meet take at most 32 KB; judge, verdict, preview, infer and report at most
+ * 48 KB, of which 25 KB are a byte for each pair of rows (of infer, its notes). The
+ * rest grows by 112 bytes for each row of the program. Measured, not proved: the
+ * workbench's tests hold the library to it. There are no globals and no heap.
  */
 #ifndef DISPENSER_H
 #define DISPENSER_H

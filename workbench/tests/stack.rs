@@ -16,15 +16,11 @@ use workbench::reference::print::print;
 use workbench::runs::{RUN_SIZE, THREAD_LIMIT};
 use workbench::samples::A;
 
-/// The most bytes of stack that the functions may take. Those of infer, report and
-/// runs are what was measured, rounded up to the next 4 KB.
-const LOAD_AND_WRITE: usize = 32 * 1024;
-const JUDGE_AND_VERDICT: usize = 48 * 1024;
-const PREVIEW: usize = 48 * 1024;
-const REPLACE: usize = 32 * 1024;
-const INFERENCE: usize = 144 * 1024;
-const REPORTS: usize = 144 * 1024;
-const RUNS: usize = 124 * 1024;
+/// The most bytes of stack that the functions may take, as `include/dispenser.h`
+/// states them: load, write, replace and runs; and those with a byte for each pair
+/// of rows, judge, verdict, preview, report and infer.
+const WITHOUT_GRID: usize = 32 * 1024;
+const WITH_GRID: usize = 48 * 1024;
 
 /// The C functions, each with an empty one of the same type.
 macro_rules! functions {
@@ -143,11 +139,11 @@ impl Bench {
         let taken = self
             .meter
             .taken(LOAD, &mut |load| unsafe { load(file, length, store, size) });
-        self.keep("load", LOAD_AND_WRITE, taken);
+        self.keep("load", WITHOUT_GRID, taken);
         let taken = self.meter.taken(REPORT, &mut |report| unsafe {
             report(file, length, store, size, out, room)
         });
-        self.keep("report", REPORTS, taken);
+        self.keep("report", WITH_GRID, taken);
     }
 }
 
@@ -161,15 +157,15 @@ impl Bench {
         let taken = self
             .meter
             .taken(JUDGE, &mut |judge| unsafe { judge(store, size) });
-        self.keep("judge", JUDGE_AND_VERDICT, taken);
+        self.keep("judge", WITH_GRID, taken);
         let taken = self.meter.taken(VERDICT, &mut |verdict| unsafe {
             verdict(store, size, channel)
         });
-        self.keep("verdict", JUDGE_AND_VERDICT, taken);
+        self.keep("verdict", WITH_GRID, taken);
         let taken = self
             .meter
             .taken(WRITE, &mut |write| unsafe { write(store, size, out, room) });
-        self.keep("write", LOAD_AND_WRITE, taken);
+        self.keep("write", WITHOUT_GRID, taken);
     }
 
     /// The calls that write the store: a set is put in place of itself.
@@ -183,15 +179,15 @@ impl Bench {
         let taken = self.meter.taken(REPLACE_SET, &mut |replace| unsafe {
             replace(store, size, name, unit, rows, count)
         });
-        self.keep("replace", REPLACE, taken);
+        self.keep("replace", WITHOUT_GRID, taken);
         let taken = self.meter.taken(PREVIEW_SET, &mut |preview| unsafe {
             preview(store, size, name, unit, rows, count)
         });
-        self.keep("preview", PREVIEW, taken);
+        self.keep("preview", WITH_GRID, taken);
         let taken = self
             .meter
             .taken(INFER, &mut |infer| unsafe { infer(store, size) });
-        self.keep("infer", INFERENCE, taken);
+        self.keep("infer", WITH_GRID, taken);
     }
 
     /// A run: its beginning, the first moves of its threads, one thread after the
@@ -205,7 +201,7 @@ impl Bench {
         let begun = self.meter.taken(BEGIN, &mut |begin| unsafe {
             begin(store, size, memory, length, records, count)
         });
-        self.keep("begin", RUNS, begun);
+        self.keep("begin", WITHOUT_GRID, begun);
         let (mut most, mut thread, mut in_use) = (0, 0, 1);
         for _ in 0..MOVES {
             // SAFETY: between the calls nobody else uses what is lent to them.
@@ -229,11 +225,11 @@ impl Bench {
                 _ => break,
             }
         }
-        self.keep("move", RUNS, (most, 0));
+        self.keep("move", WITHOUT_GRID, (most, 0));
         let met = self.meter.taken(MEET, &mut |meet| unsafe {
             meet(store, size, memory, length, records, count, 0, 1)
         });
-        self.keep("meet", RUNS, met);
+        self.keep("meet", WITHOUT_GRID, met);
     }
 
     fn every_call(mut self) -> Vec<Taken> {
