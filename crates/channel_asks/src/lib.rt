@@ -9,7 +9,7 @@ use store::Store;
 ghost use mathlib.Core.Path.{_≡_};
 ghost use Rattle.store.specs.Rows.{storeProgram};
 ghost use Rattle.tables.specs.Tables.{storeFlow, storeComm};
-ghost use Rattle.row_lists.specs.Lists.{Lists, ofKind};
+ghost use Rattle.row_lists.specs.Lists.{Lists, ofKind, chanKind, sendKind};
 ghost use Rattle.sets.specs.Sets.{Sized, PassingSet, setOf};
 ghost use Rattle.channel_asks.specs.Channels.{sendDemand, meets, chanTest, sendTest, Sends};
 
@@ -49,7 +49,7 @@ pub fn passing(
     set: &[u8],
 ) -> [u8; Store::MEMBERS]
     requires { ⌜ Sized rows (now store) ⌝ }
-    requires { ⌜ Lists rows (ofKind (now store) 3) (now chans) ⌝ }
+    requires { ⌜ Lists rows (ofKind (now store) chanKind) (now chans) ⌝ }
     ensures { λ marks. ⌜ (let bytes = now (store .entry) in PassingSet rows (chanTest (storeProgram rows bytes) (storeComm bytes) demand (setOf (now (set .entry)))) marks) ⌝ }
 {
     let many = read_text::byte_at(chans, 0);
@@ -68,7 +68,7 @@ pub fn passing(
 // Whether row s, if it is a send row, passes a sync with or without unit in its set.
 fn send_passes(store: &[u8], rows: u8, chans: &[u8], given: bool, s: u8) -> bool
     requires { ⌜ Sized rows (now store) ⌝ }
-    requires { ⌜ Lists rows (ofKind (now store) 3) (now chans) ⌝ }
+    requires { ⌜ Lists rows (ofKind (now store) chanKind) (now chans) ⌝ }
     ensures { λ b. ⌜ (let bytes = now (store .entry) in b ≡ sendTest (storeProgram rows bytes) (storeFlow bytes) (storeComm bytes) given s) ⌝ }
 {
     let Form::Send { channel, message } = form_at(store, rows, s) else {
@@ -88,8 +88,8 @@ pub fn passing_sends(
     given: bool,
 ) -> [u8; Store::MEMBERS]
     requires { ⌜ Sized rows (now store) ⌝ }
-    requires { ⌜ Lists rows (ofKind (now store) 3) (now chans) ⌝ }
-    requires { ⌜ Lists rows (ofKind (now store) 4) (now sends) ⌝ }
+    requires { ⌜ Lists rows (ofKind (now store) chanKind) (now chans) ⌝ }
+    requires { ⌜ Lists rows (ofKind (now store) sendKind) (now sends) ⌝ }
     ensures { λ marks. ⌜ Sends rows (now (store .entry)) given marks ⌝ }
 {
     let many = read_text::byte_at(sends, 0);

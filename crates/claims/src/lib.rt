@@ -1,5 +1,9 @@
 // The claims of a store, judged in turn over a grid of which rows reach which.
 use claim_words::word_of;
+use row_lists::RECV;
+use row_lists::SEND;
+use row_lists::SPAWN;
+use row_lists::SYNC;
 use row_lists::rows_of_kind;
 use store::Store;
 ghost use mathlib.Core.Path.{_≡_};
@@ -25,10 +29,10 @@ pub fn judge_claims(store: &[u8], rows: u8, grid: &[u8]) -> Held
     ensures { λ a. ⌜ (let bytes = now (store .entry) in (a ≡ claimsHeld (claimIn (storeProgram rows bytes) (storeFlow bytes)) 0 (storeClaims bytes)) × (holding a ≤ rowLimit)) ⌝ }
 {
     let comes = walks::reached_rows(grid, rows);
-    let sends = rows_of_kind(store, rows, 4);
-    let receives = rows_of_kind(store, rows, 5);
-    let syncs = rows_of_kind(store, rows, 11);
-    let spawns = rows_of_kind(store, rows, 10);
+    let sends = rows_of_kind(store, rows, SEND);
+    let receives = rows_of_kind(store, rows, RECV);
+    let syncs = rows_of_kind(store, rows, SYNC);
+    let spawns = rows_of_kind(store, rows, SPAWN);
     let mut held = 0;
     let mut c = 0;
     while c < Store::ROWS {

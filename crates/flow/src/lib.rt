@@ -4,6 +4,8 @@ use channel_asks::passing_sends;
 use form_rule::keeps_form;
 use forms::row_in;
 use program::Row;
+use row_lists::CHAN;
+use row_lists::SEND;
 use row_lists::rows_of_kind;
 use store::NO_ROW;
 ghost use mathlib.Core.Bool.{true, false, not};
@@ -16,7 +18,7 @@ ghost use Rattle.format.specs.Limits.{rowLimit};
 ghost use Rattle.calls.specs.Layout.{storeSize};
 ghost use Rattle.store.specs.Rows.{storeProgram, rowOr};
 ghost use Rattle.tables.specs.Tables.{storeFlow, storeComm};
-ghost use Rattle.row_lists.specs.Lists.{Lists, ofKind};
+ghost use Rattle.row_lists.specs.Lists.{Lists, ofKind, chanKind};
 ghost use Rattle.sets.specs.Sets.{Sized};
 ghost use Rattle.channel_asks.specs.Channels.{Sends};
 ghost use Rattle.asks.specs.Asks.{Names};
@@ -33,7 +35,7 @@ fn keeps_row(
 ) -> bool
     requires { ⌜ Sized rows (now store) ⌝ }
     requires { ⌜ Names (storeProgram rows (now store)) (now names) ⌝ }
-    requires { ⌜ Lists rows (ofKind (now store) 3) (now chans) ⌝ }
+    requires { ⌜ Lists rows (ofKind (now store) chanKind) (now chans) ⌝ }
     requires { ⌜ Sends rows (now store) true (now with) ⌝ }
     requires { ⌜ Sends rows (now store) false (now without) ⌝ }
     ensures { λ b. ⌜ (let bytes = now (store .entry) in b ≡ keepsAt (storeProgram rows bytes) (storeFlow bytes) (storeComm bytes) r) ⌝ }
@@ -53,8 +55,8 @@ pub fn failing_row(store: &[u8], rows: u8) -> u8
     ensures { λ m. ⌜ (let bytes = now (store .entry) in m ≡ rowOr (least rows (λ r. not (keepsAt (storeProgram rows bytes) (storeFlow bytes) (storeComm bytes) r)))) ⌝ }
 {
     let names = result_names(store, rows);
-    let chans = rows_of_kind(store, rows, 3);
-    let sends = rows_of_kind(store, rows, 4);
+    let chans = rows_of_kind(store, rows, CHAN);
+    let sends = rows_of_kind(store, rows, SEND);
     let with = passing_sends(store, rows, &chans, &sends, true);
     let without = passing_sends(store, rows, &chans, &sends, false);
     let mut r = 0;

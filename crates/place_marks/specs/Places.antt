@@ -9,12 +9,13 @@ use Rattle.program.specs.Walk.{sendPlace, receivePlace}
 use Rattle.format.specs.Text.{Bytes, byteAt}
 use Rattle.place_marks.specs.declared.Side.{Side}
 use Rattle.place_marks.specs.declared.Side.the-variants.{Sends, Receives}
+use Rattle.row_lists.specs.Lists.{sendKind, recvKind}
 use Rattle.row_marks.specs.RowMarks.{on}
 
 -- the kind of the side's rows in a store
 unfoldable pub kindOn : Side → ℕ
-kindOn Sends = 4
-kindOn Receives = 5
+kindOn Sends = sendKind
+kindOn Receives = recvKind
 
 module _ (p : Program) (flow : Table) where
   -- row s is a send or a recv, by the side, whose channel has row c in its set

@@ -9,7 +9,7 @@ ghost use Rattle.format.specs.Limits.{rowLimit};
 ghost use Rattle.calls.specs.Layout.{storeSize};
 ghost use Rattle.store.specs.Rows.{storeProgram};
 ghost use Rattle.tables.specs.Tables.{storeFlow};
-ghost use Rattle.row_lists.specs.Lists.{Lists, ofKind};
+ghost use Rattle.row_lists.specs.Lists.{Lists, ofKind, syncKind};
 ghost use Rattle.row_marks.specs.RowMarks.{Marked};
 ghost use Rattle.place_marks.specs.declared.Side.{Side};
 ghost use Rattle.place_marks.specs.Places.{kindOn, eventOn, oneIn, place};
@@ -122,7 +122,7 @@ pub fn places(
 ) -> [u8; Store::ROWS]
     requires { ⌜ rows ≤ rowLimit ⌝ }
     requires { ⌜ Lists rows (ofKind (now store) (kindOn side)) (now list) ⌝ }
-    requires { ⌜ Lists rows (ofKind (now store) 11) (now syncs) ⌝ }
+    requires { ⌜ Lists rows (ofKind (now store) syncKind) (now syncs) ⌝ }
     ensures { λ marks. ⌜ (let bytes = now (store .entry) in Marked rows (place (storeProgram rows bytes) (storeFlow bytes) side c) marks) ⌝ }
 {
     let on = events(store, rows, side, list, c);

@@ -23,3 +23,19 @@ pub record Lists (n : ℕ) (f : ℕ → Bool) (list : Bytes) : Type 0 where
 -- row r has this kind in a store
 unfoldable pub ofKind : Bytes → ℕ → ℕ → Bool
 ofKind s kind r = eqb (byteAt s (r * rowSize)) kind
+
+-- the kinds that are listed, as they stand in a store (`formCode` of format: Forms)
+abbrev pub chanKind : ℕ
+chanKind = 3
+
+abbrev pub sendKind : ℕ
+sendKind = 4
+
+abbrev pub recvKind : ℕ
+recvKind = 5
+
+abbrev pub spawnKind : ℕ
+spawnKind = 10
+
+abbrev pub syncKind : ℕ
+syncKind = 11

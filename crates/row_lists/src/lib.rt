@@ -4,6 +4,17 @@ ghost use Prim.Native.Nat.{_≤_};
 ghost use Rattle.format.specs.Limits.{rowLimit};
 ghost use Rattle.row_lists.specs.Lists.{Lists, ofKind};
 
+// The kinds that are listed, as they stand in a store.
+pub const CHAN: u8 = 3;
+
+pub const SEND: u8 = 4;
+
+pub const RECV: u8 = 5;
+
+pub const SPAWN: u8 = 10;
+
+pub const SYNC: u8 = 11;
+
 // The rows of a kind, rising.
 pub fn rows_of_kind(store: &[u8], rows: u8, kind: u8) -> [u8; Store::MEMBERS]
     requires { ⌜ rows ≤ rowLimit ⌝ }

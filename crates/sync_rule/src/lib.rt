@@ -11,7 +11,7 @@ ghost use mathlib.Core.Path.{_≡_};
 ghost use Rattle.program.specs.Flow.{forEach};
 ghost use Rattle.store.specs.Rows.{storeProgram};
 ghost use Rattle.tables.specs.Tables.{storeFlow, storeComm};
-ghost use Rattle.row_lists.specs.Lists.{Lists, ofKind};
+ghost use Rattle.row_lists.specs.Lists.{Lists, ofKind, chanKind};
 ghost use Rattle.sets.specs.Sets.{Sized};
 ghost use Rattle.channel_asks.specs.Channels.{Sends, sendTest};
 ghost use Rattle.asks.specs.Asks.{Names};
@@ -43,7 +43,7 @@ pub fn keeps_sync(
 ) -> bool
     requires { ⌜ Sized rows (now store) ⌝ }
     requires { ⌜ Names (storeProgram rows (now store)) (now names) ⌝ }
-    requires { ⌜ Lists rows (ofKind (now store) 3) (now chans) ⌝ }
+    requires { ⌜ Lists rows (ofKind (now store) chanKind) (now chans) ⌝ }
     requires { ⌜ Sends rows (now store) true (now with) ⌝ }
     requires { ⌜ Sends rows (now store) false (now without) ⌝ }
     ensures { λ b. ⌜ (let bytes = now (store .entry) in b ≡ syncTest (storeProgram rows bytes) (storeFlow bytes) (storeComm bytes) (storeFlow bytes n) e) ⌝ }

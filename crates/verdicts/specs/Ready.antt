@@ -7,7 +7,7 @@ use Rattle.format.specs.Text.{Bytes}
 use Rattle.store.specs.Rows.{storeProgram}
 use Rattle.tables.specs.Tables.{storeFlow}
 use Rattle.grids.specs.Grid.{gridSize, Shows}
-use Rattle.row_lists.specs.Lists.{Lists, ofKind}
+use Rattle.row_lists.specs.Lists.{Lists, ofKind, sendKind, recvKind, spawnKind, syncKind}
 use Rattle.row_marks.specs.RowMarks.{Marked}
 use Rattle.walks.specs.Walks.{comesTo}
 
@@ -16,7 +16,7 @@ pub record Ready (n : ℕ) (s : Bytes) (grid comes sends receives syncs spawns :
   pub room : gridSize ≤ length grid
   pub shows : Shows (reach (storeProgram n s) (storeFlow s)) grid
   pub reached : Marked n (comesTo grid) comes
-  pub sending : Lists n (ofKind s 4) sends
-  pub receiving : Lists n (ofKind s 5) receives
-  pub syncing : Lists n (ofKind s 11) syncs
-  pub spawning : Lists n (ofKind s 10) spawns
+  pub sending : Lists n (ofKind s sendKind) sends
+  pub receiving : Lists n (ofKind s recvKind) receives
+  pub syncing : Lists n (ofKind s syncKind) syncs
+  pub spawning : Lists n (ofKind s spawnKind) spawns

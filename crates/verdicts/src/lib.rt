@@ -5,6 +5,10 @@ use place_marks::places;
 use program::Ends;
 use program::Facts;
 use program::Word;
+use row_lists::RECV;
+use row_lists::SEND;
+use row_lists::SPAWN;
+use row_lists::SYNC;
 use row_lists::rows_of_kind;
 use row_marks::none_marked;
 use row_marks::three_meet;
@@ -22,7 +26,7 @@ ghost use Rattle.calls.specs.Judging.{verdictWords};
 ghost use Rattle.store.specs.Rows.{storeProgram};
 ghost use Rattle.tables.specs.Tables.{storeFlow};
 ghost use Rattle.grids.specs.Grid.{gridSize, Shows};
-ghost use Rattle.row_lists.specs.Lists.{Lists, ofKind};
+ghost use Rattle.row_lists.specs.Lists.{Lists, ofKind, spawnKind};
 ghost use Rattle.verdicts.specs.Words.{endsAt, factsAt, wordIn, factsIn};
 ghost use Rattle.verdicts.specs.Ready.{Ready};
 
@@ -31,7 +35,7 @@ ghost use Rattle.verdicts.specs.Ready.{Ready};
 fn ends_of(store: &[u8], rows: u8, grid: &[u8], spawns: &[u8], comes: &[u8], places: &[u8]) -> Ends
     requires { ⌜ (rows ≤ rowLimit) × (gridSize ≤ length (now grid)) × (rowLimit ≤ length (now comes)) × (rowLimit ≤ length (now places)) ⌝ }
     requires { ⌜ Shows (reach (storeProgram rows (now store)) (storeFlow (now store))) (now grid) ⌝ }
-    requires { ⌜ Lists rows (ofKind (now store) 10) (now spawns) ⌝ }
+    requires { ⌜ Lists rows (ofKind (now store) spawnKind) (now spawns) ⌝ }
     ensures { λ e. ⌜ (let bytes = now (store .entry) in e ≡ endsAt rows (storeProgram rows bytes) (storeFlow bytes) (now (comes .entry)) (now (places .entry))) ⌝ }
 {
     if none_marked(places) {
@@ -59,7 +63,7 @@ fn facts(
 ) -> Facts
     requires { ⌜ (rows ≤ rowLimit) × (gridSize ≤ length (now grid)) × (rowLimit ≤ length (now comes)) × (rowLimit ≤ length (now sends)) × (rowLimit ≤ length (now receives)) ⌝ }
     requires { ⌜ Shows (reach (storeProgram rows (now store)) (storeFlow (now store))) (now grid) ⌝ }
-    requires { ⌜ Lists rows (ofKind (now store) 10) (now spawns) ⌝ }
+    requires { ⌜ Lists rows (ofKind (now store) spawnKind) (now spawns) ⌝ }
     ensures { λ f. ⌜ (let bytes = now (store .entry) in f ≡ factsAt rows (storeProgram rows bytes) (storeFlow bytes) (now (comes .entry)) (now (sends .entry)) (now (receives .entry))) ⌝ }
 {
     let of_sends = ends_of(store, rows, grid, spawns, comes, sends);
@@ -118,10 +122,10 @@ fn own_facts(store: &[u8], rows: u8, grid: &[u8], c: u8) -> Facts
     ensures { λ f. ⌜ f ≡ factsIn (storeProgram rows (now (store .entry))) (storeFlow (now (store .entry))) c ⌝ }
 {
     let comes = reached_rows(grid, rows);
-    let sends = rows_of_kind(store, rows, 4);
-    let receives = rows_of_kind(store, rows, 5);
-    let syncs = rows_of_kind(store, rows, 11);
-    let spawns = rows_of_kind(store, rows, 10);
+    let sends = rows_of_kind(store, rows, SEND);
+    let receives = rows_of_kind(store, rows, RECV);
+    let syncs = rows_of_kind(store, rows, SYNC);
+    let spawns = rows_of_kind(store, rows, SPAWN);
     channel_facts(
         store,
         rows,

@@ -10,7 +10,7 @@ ghost use lib.ListN.{length};
 ghost use Rattle.format.specs.Limits.{rowLimit};
 ghost use Rattle.store.specs.Rows.{storeProgram};
 ghost use Rattle.grids.specs.Grid.{gridSize};
-ghost use Rattle.row_lists.specs.Lists.{Lists, ofKind};
+ghost use Rattle.row_lists.specs.Lists.{Lists, ofKind, spawnKind};
 ghost use Rattle.row_marks.specs.RowMarks.{Marked};
 ghost use Rattle.walks.specs.Walks.{comesTo, JoinsMarks, aheadOf, leadsOn, forksOn, rivalsOn};
 
@@ -104,7 +104,7 @@ pub fn rivals(
     places: &[u8],
     ahead: &[u8],
 ) -> bool
-    requires { ⌜ Lists rows (ofKind (now store) 10) (now spawns) ⌝ }
+    requires { ⌜ Lists rows (ofKind (now store) spawnKind) (now spawns) ⌝ }
     ensures { λ b. ⌜ b ≡ rivalsOn rows (storeProgram rows (now (store .entry))) (now (reached .entry)) (now (places .entry)) (now (ahead .entry)) ⌝ }
 {
     let many = read_text::byte_at(spawns, 0);
