@@ -3,7 +3,7 @@ use Prim.Native.Nat.{ℕ, _+_, _*_, _-_, _≤_, _<_, max}
 use native.Mathlib.Omega.{arith}
 use native.Mathlib.Decide.{decLt, ℕ-discrete}
 use native.Mathlib.Numerals.{add-one}
-use mathlib.Core.Bool.{Bool, true, false, _&&_, _||_, So, and-false, or-comm, false≢true}
+use mathlib.Core.Bool.{Bool, true, false, _||_, So, and-false, or-comm, false≢true}
 use mathlib.Core.Logic.{_⊎_, inl, inr, ⊎-elim}
 use mathlib.Core.Path.{_≡_, refl, sym, _∙_}
 use lib.ListN.{length, getD}
@@ -14,8 +14,8 @@ use Rattle.program.specs.Closure.{closed}
 use Rattle.program.proofs.Test.{and-left, and-right, or-left, or-right, or-cases}
 use Rattle.format.specs.Limits.{rowLimit}
 use Rattle.format.specs.Text.{Bytes}
-use Rattle.grids.specs.Grid.{gridSize, pairByte, among, step, Within, Follows}
-use Rattle.grids.specs.Rounds.{RowIs, RowJoined, RowChanged}
+use Rattle.grids.specs.Grid.{pairByte, among, step, Within, Follows}
+use Rattle.grids.specs.Rounds.{RowChanged}
 use Rattle.grids.proofs.Keeping.{kept-all, kept-then}
 use Rattle.grids.proofs.Steps.{closed-first, closed-on}
 
@@ -39,10 +39,6 @@ module _ (n : ℕ) where
   pub among-in : (f : ℕ → ℕ → Bool) (r s : ℕ) → r < n → s < n → among n f r s ≡ f r s
   unfolding among
   among-in f r s l m = rw (lt-ltb r n l, lt-ltb s n m)
-
-  pub among-as : (f g : ℕ → ℕ → Bool) (r s : ℕ) → f r s ≡ g r s → among n f r s ≡ among n g r s
-  unfolding among
-  among-as f g r s e = rw e
 
 -- ---- steps, one after the other
 

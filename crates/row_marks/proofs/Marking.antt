@@ -12,7 +12,7 @@ use borrow.Author.Tests.{lt-ltb, le-ltb}
 use Rattle.program.specs.Test.{any}
 use Rattle.format.specs.Limits.{rowLimit}
 use Rattle.format.specs.Text.{Bytes, byteAt}
-use Rattle.row_marks.specs.RowMarks.{on, marked, Marked, meets, threeMeet, NoneMarked}
+use Rattle.row_marks.specs.RowMarks.{on, marked, Marked, threeMeet, NoneMarked}
 
 -- ---- the larger and the smaller of two bytes
 
@@ -41,13 +41,6 @@ over-min x y =
     ]
 
 module _ (i found : ℕ) {next : ℕ} where
-  pub meets-more : (bytes : Bytes) (at : ℕ) (marks : Bytes) {x : ℕ} → ltb 0 found ≡ meets i bytes at marks → x ≡ min (byteAt bytes (at + i)) (byteAt marks i) → next ≡ max found x
-      → ltb 0 next ≡ meets (i + 1) bytes at marks
-  unfolding meets any on
-  meets-more bytes at marks {x} h p q =
-      let e : ltb 0 x ≡ ltb 0 (byteAt bytes (at + i)) && ltb 0 (byteAt marks i) = rw p (over-min (byteAt bytes (at + i)) (byteAt marks i)) in
-      rw (add-one i, q, over-max found x, e, h)
-
   pub three-more : (a b c : Bytes) {x y : ℕ} → ltb 0 found ≡ threeMeet i a b c → x ≡ min (byteAt b i) (byteAt c i) → y ≡ min (byteAt a i) x → next ≡ max found y
       → ltb 0 next ≡ threeMeet (i + 1) a b c
   unfolding threeMeet any on
@@ -71,9 +64,6 @@ marked-more n v {s} {f} l m e =
         | no d ↦ rw (getD-set-other s n r v 0 d) (m .rows r (omega arith))
       ];
     }
-
-pub marked-same : {n : ℕ} {f g : ℕ → Bool} {s : Bytes} → ((r : ℕ) → f r ≡ g r) → Marked n f s → Marked n g s
-marked-same e m = record { size = m .size; rows = λ r l. m .rows r l ∙ e r }
 
 -- the set that the bytes mark, of the first n rows and past them
 pub marked-in : (n : ℕ) (marks : Bytes) (r : ℕ) → r < n → on marks r ≡ marked n marks r

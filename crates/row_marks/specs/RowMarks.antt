@@ -1,5 +1,5 @@
 -- Sets of rows as bytes: a row is in the set if its byte is not 0.
-use Prim.Native.Nat.{ℕ, _+_, _≤_, _<_}
+use Prim.Native.Nat.{ℕ, _≤_, _<_}
 use mathlib.Core.Bool.{Bool, false, _&&_}
 use mathlib.Core.Path.{_≡_}
 use lib.ListN.{length}
@@ -19,10 +19,6 @@ marked n marks r = ltb r n && on marks r
 pub record Marked (n : ℕ) (f : ℕ → Bool) (marks : Bytes) : Type 0 where
   pub size : rowLimit ≤ length marks
   pub rows : (r : ℕ) → r < n → on marks r ≡ f r
-
--- one of the first n rows is in both sets; the first begins at a position
-unfoldable pub meets : ℕ → Bytes → ℕ → Bytes → Bool
-meets n bytes at marks = any n λ i. on bytes (at + i) && on marks i
 
 -- one of the first n rows is in all three sets
 unfoldable pub threeMeet : ℕ → Bytes → Bytes → Bytes → Bool

@@ -4,28 +4,12 @@ use byte_order::smaller;
 use store::Store;
 ghost use mathlib.Core.Bool.{true};
 ghost use mathlib.Core.Path.{_≡_};
-ghost use Prim.Native.Nat.{_+_, _≤_};
+ghost use Prim.Native.Nat.{_≤_};
 ghost use lib.ListN.{length};
 ghost use Rattle.format.specs.Limits.{rowLimit};
-ghost use Rattle.row_marks.specs.RowMarks.{meets, threeMeet, NoneMarked};
+ghost use Rattle.row_marks.specs.RowMarks.{threeMeet, NoneMarked};
 
-// Whether one of the first n rows is in both sets; the first begins at a position. Every row is looked at, so that the loop
-// has no way out but its end.
-pub fn meets(bytes: &[u8], at: usize, marks: &[u8], n: usize) -> bool
-    requires { ⌜ (at + n ≤ length (now bytes)) × (n ≤ length (now marks)) ⌝ }
-    ensures { λ b. ⌜ b ≡ meets n (now (bytes .entry)) at (now (marks .entry)) ⌝ }
-{
-    let mut found = 0;
-    let mut i = 0;
-    while i < n {
-        let x = smaller(bytes[at + i], marks[i]);
-        found = larger(found, x);
-        i += 1;
-    }
-    0 < found
-}
-
-// Whether one of the first n rows is in all three sets.
+// Whether one of the first n rows is in all three sets. Every row is looked at, so that the loop has no way out but its end.
 pub fn three_meet(a: &[u8], b: &[u8], c: &[u8], n: usize) -> bool
     requires { ⌜ (n ≤ length (now a)) × (n ≤ length (now b)) × (n ≤ length (now c)) ⌝ }
     ensures { λ r. ⌜ r ≡ threeMeet n (now (a .entry)) (now (b .entry)) (now (c .entry)) ⌝ }

@@ -1,13 +1,13 @@
 -- Sets as bytes: the sets of a store, one set within another, and sets of rows that pass a test.
 use Prim.Native.Nat.{ℕ, zero, suc, _+_, _*_, _≤_, _<_, max}
 use native.Mathlib.Omega.{arith}
-use native.Mathlib.Decide.{decLt, ℕ-discrete as decEq}
+use native.Mathlib.Decide.{decLt}
 use native.Mathlib.Numerals.{add-one}
 use mathlib.Core.Bool.{Bool, true, false, _&&_, So}
 use mathlib.Core.List.{[]}
 use mathlib.Core.Path.{_≡_, _∙_, fun-ext}
-use lib.ListN.{length, getD, take, drop, replicate, length-take, length-drop, set, length-set, length-replicate, List·getD-eq-default}
-use lib.Seq.{getD-take, getD-drop, getD-set-same, getD-set-other}
+use lib.ListN.{length, getD, take, drop, length-take, length-drop, List·getD-eq-default}
+use lib.Seq.{getD-take, getD-drop}
 use lib.Dec.{ltb, leb, eqb}
 use borrow.Author.Tests.{lt-ltb, le-leb, lt-leb, ne-eqb}
 use Rattle.program.specs.Test.{pick, _⇒_}
@@ -105,19 +105,3 @@ unfolding lies forEach member
 marks-lies n s f marks a m =
     rw (set-full marks (m .size), lt-ltb 0 _ (m .unit), implies-true (a u))
     (all-same _ _ _ λ i l. let q = m .rows i (rw (program-length n s) at l) in rw (← (add-one i), q))
-
--- ---- arrays that a loop fills
-
-pub marks-none : (f : ℕ → Bool) → PassingSet 0 f (set (replicate memberLimit 0) 0 1)
-marks-none f = record { size = omega (arith, length-replicate {A = ℕ} memberLimit 0); unit = omega arith; rows = λ r l. absurd (omega arith) }
-
-pub marks-more : (n v : ℕ) {s : Bytes} {f : ℕ → Bool} → n < rowLimit → PassingSet n f s → ltb 0 v ≡ f n → PassingSet (n + 1) f (set s (n + 1) v)
-marks-more n v {s} {f} l m e =
-    record {
-      size = simp length-set (m .size);
-      unit = rw (getD-set-other s (n + 1) 0 v 0 (λ q. omega arith)) (m .unit);
-      rows = λ r h. elim (decEq r n) [
-        | yes q ↦ rw (q, getD-set-same s (n + 1) v 0 (omega (arith, m .size))) e
-        | no d ↦ rw (getD-set-other s (n + 1) (r + 1) v 0 (λ q. d (omega arith))) (m .rows r (omega arith))
-      ];
-    }
