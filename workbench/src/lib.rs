@@ -4,8 +4,10 @@
 
 #![deny(unsafe_code)]
 
+/// The proved checker, called through its C functions.
+pub use dispenser as checker;
+
 pub mod baseline;
-pub mod checker;
 pub mod differential;
 pub mod explain;
 pub mod generate;

@@ -511,7 +511,7 @@ fn a_long_line_is_cut_around_its_fault() {
 #[test]
 fn standard_input_is_the_file_named_by_a_dash() {
     let printed = |command: &str, input: &str| {
-        let mut child = Command::new(env!("CARGO_BIN_EXE_workbench"))
+        let mut child = Command::new(env!("CARGO_BIN_EXE_channel-check"))
             .args([command, "-"])
             .stdin(Stdio::piped())
             .stdout(Stdio::piped())

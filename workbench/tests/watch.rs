@@ -28,7 +28,7 @@ impl Folder {
     /// Watches the file, with some words before its name, and writes to standard
     /// input.
     fn watch(&self, words: &[&str], input: &str) -> Output {
-        let mut child = Command::new(env!("CARGO_BIN_EXE_workbench"))
+        let mut child = Command::new(env!("CARGO_BIN_EXE_channel-check"))
             .current_dir(&self.path)
             .arg("watch")
             .args(words)
@@ -342,7 +342,7 @@ fn a_file_that_cannot_be_loaded_is_refused_as_check_does() {
         (&["--svg"], &["check"]),
     ] {
         let output = folder.watch(words, "1\n");
-        let mut command = Command::new(env!("CARGO_BIN_EXE_workbench"));
+        let mut command = Command::new(env!("CARGO_BIN_EXE_channel-check"));
         let checked = command.current_dir(&folder.path).args(check).arg("f");
         let checked = checked.output().unwrap();
         assert_eq!(output.status.code(), Some(1));
@@ -354,7 +354,7 @@ fn a_file_that_cannot_be_loaded_is_refused_as_check_does() {
         assert_eq!(text(told), text(&checked.stdout));
         assert!(other.is_empty());
     }
-    let gone = Command::new(env!("CARGO_BIN_EXE_workbench"))
+    let gone = Command::new(env!("CARGO_BIN_EXE_channel-check"))
         .args(["watch", "--random", "1", "no-such-file"])
         .output()
         .unwrap();
@@ -674,7 +674,7 @@ fn text_in_a_picture_is_escaped() {
     let folder = Folder::with("escape", A);
     let name = "a<b>&\"c'.txt";
     std::fs::write(folder.path.join(name), A).unwrap();
-    let output = Command::new(env!("CARGO_BIN_EXE_workbench"))
+    let output = Command::new(env!("CARGO_BIN_EXE_channel-check"))
         .current_dir(&folder.path)
         .args(["watch", "--svg", "--random", "1", name])
         .output()
@@ -741,7 +741,7 @@ fn bad_usage_is_told() {
         (&["watch", "-"], "so the file cannot be `-`"),
     ];
     let run = |words: &[&str]| {
-        let mut command = Command::new(env!("CARGO_BIN_EXE_workbench"));
+        let mut command = Command::new(env!("CARGO_BIN_EXE_channel-check"));
         let command = command.args(words).stdin(Stdio::null());
         command.output().unwrap()
     };
@@ -760,7 +760,7 @@ fn bad_usage_is_told() {
 
 #[test]
 fn the_file_may_be_standard_input_where_nobody_is_asked() {
-    let mut child = Command::new(env!("CARGO_BIN_EXE_workbench"))
+    let mut child = Command::new(env!("CARGO_BIN_EXE_channel-check"))
         .args(["watch", "--replay", A_TO_THE_END, "-"])
         .stdin(Stdio::piped())
         .stdout(Stdio::piped())

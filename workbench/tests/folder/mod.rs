@@ -21,7 +21,7 @@ impl Folder {
     }
 
     pub fn run(&self, words: &[&str]) -> Output {
-        let mut command = Command::new(env!("CARGO_BIN_EXE_workbench"));
+        let mut command = Command::new(env!("CARGO_BIN_EXE_channel-check"));
         command.current_dir(&self.path).args(words);
         command.stdin(Stdio::null()).output().unwrap()
     }

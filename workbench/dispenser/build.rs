@@ -4,7 +4,7 @@
 use std::path::Path;
 
 fn main() {
-    let folder = Path::new(env!("CARGO_MANIFEST_DIR")).join("../target/staticlib");
+    let folder = Path::new(env!("CARGO_MANIFEST_DIR")).join("../../target/staticlib");
     let library = folder.join("libdispenser_c.a");
     println!("cargo:rerun-if-changed={}", library.display());
     if !library.is_file() {

@@ -13,8 +13,14 @@ pub use run::{Move, Run};
 
 use std::fmt;
 
-use crate::layout::LONGEST_TEXT;
-use crate::reference::document::LAST_NUMBER;
+/// The most bytes of a file.
+pub const FILE_MAX: usize = 32_768;
+
+/// The most rows, and the most names; both are numbered from 0.
+pub const ROWS: usize = 160;
+
+/// The most threads of a run, and the thread records that it needs.
+pub const THREADS: usize = 64;
 
 /// The low bits of an answer, which tell accepted from refused.
 const STATUS_BITS: u32 = 8;
@@ -89,7 +95,7 @@ impl fmt::Display for Reason {
         f.write_str(match self {
             Reason::FileTooLong => "the file has more than 32,768 bytes",
             Reason::NotALine => "this is no line of the kinds that may stand here",
-            Reason::NumberAboveLimit => return write!(f, "a number is above {LAST_NUMBER}"),
+            Reason::NumberAboveLimit => return write!(f, "a number is above {}", ROWS - 1),
             Reason::RowOutOfCount => "a row is out of count",
             Reason::NotRising => "numbers do not rise",
             Reason::Pointer => "a row is not pointed at exactly once, from a smaller row",
@@ -266,11 +272,21 @@ impl Store {
         decode(ffi::write(&self.bytes, out))
     }
 
-    /// The store as text, however long.
+    /// The store as text, however long: after infer or replace it may be longer
+    /// than a file.
     pub fn text(&self) -> Result<Vec<u8>, Refusal> {
-        let mut text = vec![0; LONGEST_TEXT];
-        let length = self.write(&mut text)?;
-        text.truncate(length);
-        Ok(text)
+        let mut text = vec![0; FILE_MAX];
+        loop {
+            match self.write(&mut text) {
+                Ok(length) => {
+                    text.truncate(length);
+                    return Ok(text);
+                }
+                Err(refusal) if refusal.reason == Reason::OutputTooShort => {
+                    text.resize(2 * text.len(), 0);
+                }
+                Err(refusal) => return Err(refusal),
+            }
+        }
     }
 }

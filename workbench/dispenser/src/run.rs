@@ -3,9 +3,8 @@
 use std::fmt;
 use std::str::FromStr;
 
-use super::ffi::{self, Thread};
-use super::{decode, Refusal, Store};
-use crate::runs::THREAD_LIMIT;
+use crate::ffi::{self, Thread};
+use crate::{decode, Refusal, Store, THREADS};
 
 /// "A move names one thread, or a sending and a receiving one."
 #[derive(Clone, Copy, Debug, PartialEq, Eq, PartialOrd, Ord)]
@@ -67,7 +66,7 @@ impl Run {
     pub fn new() -> Run {
         Run {
             memory: vec![0; Run::size()],
-            records: vec![Thread::default(); THREAD_LIMIT],
+            records: vec![Thread::default(); THREADS],
             in_use: 0,
         }
     }
