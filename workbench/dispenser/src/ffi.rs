@@ -9,8 +9,11 @@ use std::os::raw::c_uchar;
 #[repr(C)]
 #[derive(Clone, Copy, Debug, Default, PartialEq, Eq)]
 pub struct Thread {
+    /// The row where it stands.
     pub row: u8,
+    /// The library's own.
     pub cell: u16,
+    /// The library's own.
     pub frame: u16,
 }
 

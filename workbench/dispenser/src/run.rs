@@ -3,14 +3,32 @@
 use std::fmt;
 use std::str::FromStr;
 
+use crate::answer::decode;
 use crate::ffi::{self, Thread};
-use crate::{decode, Refusal, Store, THREADS};
+use crate::{Refusal, Store, THREADS};
 
 /// "A move names one thread, or a sending and a receiving one."
+///
+/// It is written as the thread's number, or as the sender's and the receiver's:
+///
+/// ```
+/// use dispenser::Move;
+///
+/// let meeting = Move::Meeting { sender: 0, receiver: 1 };
+/// assert_eq!("0+1".parse(), Ok(meeting));
+/// assert_eq!(Move::Alone(12).to_string(), "12");
+/// ```
 #[derive(Clone, Copy, Debug, PartialEq, Eq, PartialOrd, Ord)]
 pub enum Move {
+    /// A thread's own move, by its number.
     Alone(usize),
-    Meeting { sender: usize, receiver: usize },
+    /// A send and a receive on one channel.
+    Meeting {
+        /// The number of the thread that sends.
+        sender: usize,
+        /// The number of the thread that receives.
+        receiver: usize,
+    },
 }
 
 /// A thread's number, or the sender's and the receiver's: `0`, `0+1`.
@@ -42,6 +60,31 @@ impl FromStr for Move {
 }
 
 /// A run that owns its memory and its thread records.
+///
+/// It reads the rows of the store's program and nothing else of it, and goes on
+/// while these stay the same.
+///
+/// ```
+/// use dispenser::{Move, Reason, Run, Store};
+///
+/// let mut store = Store::new();
+/// store.load(&std::fs::read("../../examples/a.txt")?)?;
+/// let mut run = Run::new();
+/// assert_eq!(run.begin(&store)?, 1);
+///
+/// // Unit, chan and spawn; both threads go to their syncs, where they meet.
+/// for thread in [0, 0, 0, 1, 0] {
+///     run.make(&store, Move::Alone(thread))?;
+/// }
+/// run.make(&store, Move::Meeting { sender: 0, receiver: 1 })?;
+/// let rows: Vec<u8> = run.threads().iter().map(|thread| thread.row).collect();
+/// assert_eq!(rows, [8, 5]);
+///
+/// // Both are at their results: no move is left.
+/// let refusal = run.make(&store, Move::Alone(0)).unwrap_err();
+/// assert_eq!(refusal.reason, Reason::MoveNotAllowed);
+/// # Ok::<(), Box<dyn std::error::Error>>(())
+/// ```
 #[derive(Clone, Debug, PartialEq, Eq)]
 pub struct Run {
     memory: Vec<u8>,
@@ -71,6 +114,7 @@ impl Run {
         }
     }
 
+    /// Its memory, as the library left it.
     pub fn memory(&self) -> &[u8] {
         &self.memory
     }
