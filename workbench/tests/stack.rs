@@ -1,6 +1,7 @@
 //! How much stack each C function takes, to the byte, on the programs that take the
 //! most: none takes more than is stated here.
 
+mod c_code;
 mod meter;
 
 use std::hint::black_box;
@@ -389,4 +390,10 @@ fn what_is_above_its_figure_is_told() {
         excesses(&[taken(101), taken(99), taken(107)]),
         "judge takes 107 bytes of stack on a shape, stated are 100; too many on 2 in all"
     );
+}
+
+#[test]
+fn the_figures_are_those_of_the_header() {
+    assert_eq!(WITHOUT_GRID, c_code::constant("DISPENSER_STACK_SMALL"));
+    assert_eq!(WITH_GRID, c_code::constant("DISPENSER_STACK"));
 }
