@@ -179,6 +179,7 @@ struct dispenser_thread {
 #define DISPENSER_ASSERT(holds, why) _Static_assert(holds, why)
 #endif
 #ifdef DISPENSER_ASSERT
+DISPENSER_ASSERT(sizeof(size_t) == 8, "the library is for x86-64");
 DISPENSER_ASSERT(sizeof(struct dispenser_thread) == 6, "a record has 6 bytes");
 DISPENSER_ASSERT(offsetof(struct dispenser_thread, row) == 0, "row at 0");
 DISPENSER_ASSERT(offsetof(struct dispenser_thread, cell) == 2, "cell at 2");

@@ -14,14 +14,15 @@ use workbench::reference::document::{MAX_FILE_BYTES, NUMBER_LIMIT};
 use workbench::runs::THREAD_LIMIT;
 use workbench::samples::A;
 
-/// Compiles in each standard of C and, where there is a compiler for it, of C++.
+/// Compiles in each standard of C and, where there is a compiler for it, of C++, for
+/// which g++ takes files of C.
 fn in_each_standard(test: impl Fn(&str, &[&str])) {
     for standard in ["-std=c99", "-std=c11", "-std=c17"] {
         test("gcc", &[standard]);
     }
     if Command::new("g++").arg("--version").output().is_ok() {
         for standard in ["-std=c++98", "-std=c++11", "-std=c++17"] {
-            test("g++", &["-Wno-long-long", "-x", "c++", standard]);
+            test("g++", &["-Wno-long-long", standard]);
         }
     }
 }
@@ -40,20 +41,40 @@ fn the_header_compiles_alone() {
 
 #[test]
 fn several_files_of_a_program_include_the_header() {
-    let include = "#include \"dispenser.h\"\n";
+    // The library's functions are found from C++ too.
     let [first, second] = ["first.c", "second.c"].map(made);
-    let calls = "int main(void) { return *second(0) != *dispenser_text(0); }\n";
-    let declared = "const char *second(int number);\n";
-    let defined = "const char *second(int number) { return dispenser_text(number); }\n";
-    std::fs::write(&first, format!("{include}{declared}{calls}")).unwrap();
-    std::fs::write(&second, format!("{include}{declared}{defined}")).unwrap();
+    let library = of_repository("target/staticlib/libdispenser_c.a");
+    let declared = "#include \"dispenser.h\"\nsize_t size(int number);\n";
+    let calls = "int main(void) { return !*dispenser_text(0) || size(0) != DISPENSER_STORE_SIZE; }";
+    let defined =
+        "size_t size(int number) { return *dispenser_text(number) ? dispenser_store_size() : 0; }";
+    std::fs::write(&first, format!("{declared}{calls}\n")).unwrap();
+    std::fs::write(&second, format!("{declared}{defined}\n")).unwrap();
     let program = made("first_and_second");
     in_each_standard(|compiler, words| {
         let words = [words, &["-O0", "-o", program.to_str().unwrap()]].concat();
-        compile(compiler, &words, &[&first, &second]);
-        let words = format!("{compiler} {words:?}");
-        assert_eq!(run(&program, ""), (Some(0), String::new()), "{words}");
+        compile(compiler, &words, &[&first, &second, &library]);
+        assert_eq!(run(&program, ""), (Some(0), String::new()), "{words:?}");
     });
+}
+
+#[test]
+fn another_machine_is_told_by_the_compiler() {
+    let source = made("other_machine.c");
+    std::fs::write(&source, header()).unwrap();
+    let words = ["-std=c11", "-ffreestanding", "-fsyntax-only"];
+    for (machine, compiles) in [("-m64", true), ("-m32", false)] {
+        let compiler = Command::new("gcc")
+            .args(words)
+            .arg(machine)
+            .arg(&source)
+            .output();
+        let compiler = compiler.unwrap();
+        let told = String::from_utf8_lossy(&compiler.stderr);
+        assert_eq!(compiler.status.success(), compiles, "{machine}: {told}");
+        let named = told.contains("the library is for x86-64");
+        assert_eq!(named, !compiles, "{machine}: {told}");
+    }
 }
 
 /// `FileTooLong` as the header has it, `FILE_TOO_LONG`.

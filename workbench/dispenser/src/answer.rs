@@ -59,3 +59,41 @@ pub(crate) fn decode(answer: u64) -> Result<usize, Refusal> {
         None => panic!("the library answered {number}, which is no refusal"),
     }
 }
+
+#[cfg(test)]
+mod tests {
+    use super::*;
+
+    #[test]
+    fn every_refusal_is_read_with_its_line() {
+        for reason in Reason::ALL {
+            for line in [0, 1, 255, 32_770] {
+                let answer = (line as u64) << 8 | u64::from(reason.number());
+                assert_eq!(decode(answer), Err(Refusal { reason, line }));
+            }
+        }
+    }
+
+    #[test]
+    #[should_panic(expected = "answered 12, which is no refusal")]
+    fn a_number_of_no_refusal_is_not_passed_on() {
+        let _ = decode(12);
+    }
+
+    #[test]
+    fn counts_and_words_stand_lowest_first() {
+        let counts = decode(0x04_03_02_a0_00).map(Counts::of_answer);
+        let expected = Counts {
+            rows: 160,
+            flows: 2,
+            comms: 3,
+            claims: 4,
+        };
+        assert_eq!(counts, Ok(expected));
+        for (word, bit) in (0..5).zip(8..) {
+            let words = decode(1 << bit).map(verdict_of_answer).unwrap();
+            let yes: Vec<usize> = (0..5).filter(|&at| words[at]).collect();
+            assert_eq!(yes, [word]);
+        }
+    }
+}
