@@ -24,11 +24,11 @@ static void tell(const char *call, uint64_t answer) {
     int same = memcmp(store_before, store, store_size) == 0 &&
                memcmp(run_before, run, run_size + SPARE) == 0 &&
                memcmp(threads_before, threads, sizeof threads) == 0;
-    printf("%s %d %s\n", call, (int)(answer & 0xff), same ? "same" : "altered");
+    printf("%s %d %s\n", call, dispenser_refusal(answer), same ? "same" : "altered");
 }
 
 int main(void) {
-    static uint8_t file[32769];
+    static uint8_t file[DISPENSER_FILE_MAX + 1];
     size_t length = fread(file, 1, sizeof file, stdin);
     store_size = dispenser_store_size();
     run_size = dispenser_run_size();
@@ -40,7 +40,7 @@ int main(void) {
     for (size_t at = 0; at < sizeof threads; at++)
         ((uint8_t *)threads)[at] = (uint8_t)(at * 37 + 11);
     memset(run, 0, run_size + SPARE);
-    if (dispenser_load(file, length, store, store_size) & 0xff) return 1;
+    if (!dispenser_accepted(dispenser_load(file, length, store, store_size))) return 1;
 
     keep();
     tell("not begun", dispenser_move(store, store_size, run, run_size, threads, RECORDS, 0));

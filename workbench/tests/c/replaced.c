@@ -15,7 +15,7 @@ static size_t size;
 
 static void tell(const char *call, uint64_t answer) {
     int same = memcmp(before, store, size + SPARE) == 0;
-    printf("%s %d %llx %s\n", call, (int)(answer & 0xff),
+    printf("%s %d %llx %s\n", call, dispenser_refusal(answer),
            (unsigned long long)(answer >> 8), same ? "same" : "altered");
     memcpy(before, store, size + SPARE);
 }
@@ -29,7 +29,7 @@ static void replace(size_t name, uint8_t unit, const uint8_t *rows, size_t lengt
 }
 
 int main(void) {
-    static uint8_t file[32769];
+    static uint8_t file[DISPENSER_FILE_MAX + 1];
     static const uint8_t rows[] = {1, 3, 6}, falling[] = {3, 1}, absent[] = {200};
     size_t length = fread(file, 1, sizeof file, stdin);
     size = dispenser_store_size();
@@ -37,7 +37,7 @@ int main(void) {
     before = malloc(size + SPARE);
     if (!store || !before) return 2;
     memset(store, 0xa7, size + SPARE);
-    if (dispenser_load(file, length, store, size) & 0xff) return 1;
+    if (!dispenser_accepted(dispenser_load(file, length, store, size))) return 1;
     memcpy(before, store, size + SPARE);
 
     preview(4, 1, rows, 3);

@@ -7,10 +7,8 @@
 
 #include "dispenser.h"
 
-static uint64_t number(uint64_t answer) { return answer & 0xff; }
-
 int main(void) {
-    static uint8_t file[32769];
+    static uint8_t file[DISPENSER_FILE_MAX + 1];
     size_t length = fread(file, 1, sizeof file, stdin);
     size_t store_size = dispenser_store_size();
     size_t run_size = dispenser_run_size();
@@ -21,32 +19,32 @@ int main(void) {
     for (size_t at = 0; at < run_size; at++) run[at] = (uint8_t)(at * 7 + 1);
 
     uint64_t answer = dispenser_load(file, length, store, store_size);
-    if (number(answer) == 0)
+    if (dispenser_accepted(answer))
         answer = dispenser_begin(store, store_size, run, run_size, threads,
                                  DISPENSER_THREADS);
-    if (number(answer) != 0) {
-        printf("refused %d\n", (int)number(answer));
+    if (!dispenser_accepted(answer)) {
+        printf("refused %d\n", dispenser_refusal(answer));
         return 1;
     }
-    size_t count = (size_t)(answer >> 8);
+    size_t count = dispenser_threads_in_use(answer);
     int moved = 1;
     while (moved) {
         moved = 0;
         for (size_t one = 0; one < count; one++) {
             answer = dispenser_move(store, store_size, run, run_size, threads,
                                     DISPENSER_THREADS, one);
-            if (number(answer) == 0) {
-                count = (size_t)(answer >> 8);
+            if (dispenser_accepted(answer)) {
+                count = dispenser_threads_in_use(answer);
                 printf("%zu\n", one);
                 moved = 1;
-            } else if (number(answer) != 30) {
-                printf("refused %d\n", (int)number(answer));
+            } else if (dispenser_refusal(answer) != DISPENSER_MOVE_NOT_ALLOWED) {
+                printf("refused %d\n", dispenser_refusal(answer));
                 return 1;
             }
             for (size_t other = 0; other < count; other++) {
                 answer = dispenser_meet(store, store_size, run, run_size,
                                         threads, DISPENSER_THREADS, one, other);
-                if (number(answer) == 0) {
+                if (dispenser_accepted(answer)) {
                     printf("%zu+%zu\n", one, other);
                     moved = 1;
                 }

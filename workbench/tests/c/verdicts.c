@@ -6,7 +6,7 @@
 #include "dispenser.h"
 
 int main(void) {
-    static uint8_t file[32769];
+    static uint8_t file[DISPENSER_FILE_MAX + 1];
     static const char *const words[] = {"one-shot", "one-to-one", "fan-out", "fan-in", "one-sync"};
     size_t length = fread(file, 1, sizeof file, stdin);
     size_t size = dispenser_store_size();
@@ -14,11 +14,11 @@ int main(void) {
     if (!store) return 2;
 
     uint64_t answer = dispenser_load(file, length, store, size);
-    if ((answer & 0xff) != 0) return 1;
-    size_t rows = (size_t)(answer >> 8 & 0xff);
+    if (!dispenser_accepted(answer)) return 1;
+    size_t rows = dispenser_rows(answer);
     for (size_t row = 0; row < rows; row++) {
         answer = dispenser_verdict(store, size, row);
-        if ((answer & 0xff) != 0) continue;
+        if (!dispenser_accepted(answer)) continue;
         printf("row %zu:", row);
         for (int word = 0; word < 5; word++)
             if (answer >> (8 + word) & 1) printf(" %s", words[word]);
