@@ -1,5 +1,4 @@
-//! The tool for people: `workbench check FILE..`, `workbench infer FILE`,
-//! `workbench watch FILE`.
+//! The tool for people, `channel-check`: `channel-check help` lists its commands.
 
 use std::process::ExitCode;
 

@@ -1,11 +1,11 @@
-//! The tool `workbench`, run as a program.
+//! The tool `channel-check`, run as a program.
 
 mod folder;
 
 use std::io::Write;
-use std::process::{Command, Stdio};
+use std::process::Stdio;
 
-use folder::{text, Folder};
+use folder::{text, tool, Folder};
 use workbench::generate::hardest;
 use workbench::reference::print::print;
 use workbench::samples::{
@@ -69,7 +69,7 @@ f: refused 10 at line 6: the tables break the flow rule of this row
   Missing from the set of name 4: unit (`u`); it has no line, so it is empty.
   This sync takes name 3, which may be recv row 3, whose channel, name 1, may be chan row 1; \
 so the set of messages of channel row 1 must lie in the set of name 4.
-  `workbench infer FILE` prints the file with the smallest tables that keep the flow rules.
+  `channel-check infer FILE` prints the file with the smallest tables that keep the flow rules.
 "
     );
 }
@@ -146,11 +146,12 @@ fn infer_refuses_as_check_does_but_on_standard_error() {
     folder.put("f", a_with("[row 8 [result 6]]", "[row 8 [result 3]]"));
     for file in ["f", "gone"] {
         let check = folder.run(&["check", file]);
+        let told = [check.stdout, check.stderr].concat();
         for words in [&["infer", file] as &[&str], &["infer", "--diff", file]] {
             let infer = folder.run(words);
             assert_eq!(infer.status.code(), check.status.code());
             assert!(infer.stdout.is_empty());
-            assert_eq!(text(&infer.stderr), text(&check.stdout));
+            assert_eq!(text(&infer.stderr), text(&told));
         }
     }
 }
@@ -417,7 +418,7 @@ fn json_for_machines() {
     let rule = folder
         .put("f", a_with("[flow 4 [u]]", ""))
         .run(&["check", "--json", "f"]);
-    assert!(text(&rule.stdout).contains(r#", "hint": "`workbench infer FILE` prints"#));
+    assert!(text(&rule.stdout).contains(r#", "hint": "`channel-check infer FILE` prints"#));
 }
 
 #[test]
@@ -428,41 +429,6 @@ fn the_status_is_the_worst_of_all_files() {
     assert_eq!(status(&["good", "good"]), Some(0));
     assert_eq!(status(&["good", "bad", "good"]), Some(1));
     assert_eq!(status(&["bad", "missing", "good"]), Some(2));
-}
-
-#[test]
-fn bad_usage_is_told() {
-    let folder = Folder::new("usage");
-    let cases: [(&[&str], &str); 9] = [
-        (&[], "no command given"),
-        (&["check"], "no file given"),
-        (&["check", "--json"], "no file given"),
-        (&["chekc", "f"], "unknown command `chekc`"),
-        (&["check", "--colour", "f"], "unknown option `--colour`"),
-        (&["check", "--diff", "f"], "unknown option `--diff`"),
-        (&["infer"], "no file given"),
-        (&["infer", "--json", "f"], "unknown option `--json`"),
-        (&["infer", "f", "g"], "infer takes one file, not 2"),
-    ];
-    for (words, message) in cases {
-        let output = folder.run(words);
-        assert_eq!(output.status.code(), Some(2), "{words:?}");
-        assert!(output.stdout.is_empty());
-        let stderr = text(&output.stderr);
-        assert!(
-            stderr.contains(message) && stderr.contains("usage: workbench check"),
-            "{stderr}"
-        );
-    }
-    for words in [
-        &["--help"] as &[&str],
-        &["check", "-h"],
-        &["infer", "--help"],
-    ] {
-        let help = folder.run(words);
-        assert_eq!(help.status.code(), Some(0));
-        assert!(text(&help.stdout).starts_with("usage: workbench check"));
-    }
 }
 
 #[test]
@@ -478,16 +444,21 @@ fn bad_files_are_told() {
     let shown = |file: &str, status: i32| {
         let output = folder.run(&["check", "--", file]);
         assert_eq!(output.status.code(), Some(status), "{file}");
-        assert!(output.stderr.is_empty(), "{}", text(&output.stderr));
-        text(&output.stdout).to_string()
+        // What cannot be read is a problem, and told on standard error.
+        let (told, other) = match status {
+            2 => (output.stderr, output.stdout),
+            _ => (output.stdout, output.stderr),
+        };
+        assert!(other.is_empty(), "{}", text(&other));
+        text(&told).to_string()
     };
     assert_eq!(
         shown("gone", 2),
-        "gone: not checked: there is no such file\n"
+        "channel-check: gone: not checked: there is no such file\n"
     );
     assert_eq!(
         shown("folder", 2),
-        "folder: not checked: this is a folder, not a file\n"
+        "channel-check: folder: not checked: this is a folder, not a file\n"
     );
     assert!(
         shown("large", 1).starts_with("large: refused 1: the file has more than 32,768 bytes\n")
@@ -511,7 +482,7 @@ fn a_long_line_is_cut_around_its_fault() {
 #[test]
 fn standard_input_is_the_file_named_by_a_dash() {
     let printed = |command: &str, input: &str| {
-        let mut child = Command::new(env!("CARGO_BIN_EXE_channel-check"))
+        let mut child = tool()
             .args([command, "-"])
             .stdin(Stdio::piped())
             .stdout(Stdio::piped())
@@ -526,12 +497,4 @@ fn standard_input_is_the_file_named_by_a_dash() {
     };
     assert!(printed("check", A).starts_with("-: accepted, 1 claim holds\n"));
     assert_eq!(printed("infer", &a_without_tables()), A);
-}
-
-#[test]
-fn what_is_not_a_terminal_has_no_colours() {
-    let folder = Folder::new("colours");
-    folder.put("good", A).put("bad", "[dispenser 1]\n");
-    let output = folder.run(&["check", "good", "bad", "gone"]);
-    assert!(!output.stdout.contains(&0x1b));
 }

@@ -1,4 +1,4 @@
-//! `workbench preview` and `workbench replace`, run as a program.
+//! `channel-check preview` and `channel-check replace`, run as a program.
 
 mod folder;
 
@@ -59,8 +59,8 @@ f with this set: refused 10 at line 6: the tables break the flow rule of this ro
   Missing from the set of name 4: unit (`u`); its line is `[flow 4 [1 3]]`.
   This sync takes name 3, which may be recv row 3, whose channel, name 0, may be chan row 0; \
 so the set of messages of channel row 0 must lie in the set of name 4.
-  `workbench infer FILE` prints the file with the smallest tables that keep the flow rules.
-  Lines count in the text with this set, which `workbench replace` prints.
+  `channel-check infer FILE` prints the file with the smallest tables that keep the flow rules.
+  Lines count in the text with this set, which `channel-check replace` prints.
 "
     );
     let empty = previewed("preview empty", A, "[]", 1);
@@ -182,12 +182,14 @@ fn files_that_are_not_loaded_are_told_as_check_does() {
             let preview = folder.run(&[&["preview"], option, &[file, "4", "[u]"]].concat());
             assert_eq!(preview.status.code(), check.status.code());
             assert_eq!(text(&preview.stdout), text(&check.stdout));
+            assert_eq!(text(&preview.stderr), text(&check.stderr));
         }
         let check = folder.run(&["check", file]);
+        let told = [check.stdout, check.stderr].concat();
         let replace = folder.run(&["replace", file, "4", "[u]"]);
         assert_eq!(replace.status.code(), check.status.code());
         assert!(replace.stdout.is_empty());
-        assert_eq!(text(&replace.stderr), text(&check.stdout));
+        assert_eq!(text(&replace.stderr), text(&told));
     }
 }
 
@@ -259,11 +261,13 @@ fn bad_words_are_told() {
             assert!(output.stdout.is_empty());
             let stderr = text(&output.stderr);
             assert!(stderr.contains(message), "{words:?} {stderr}");
-            assert!(stderr.contains("usage: workbench check"));
+            let see = format!("\nsee `channel-check help {command}`\n");
+            assert!(stderr.ends_with(&see), "{stderr}");
         }
         let help = folder.run(&[command, "--help"]);
         assert_eq!(help.status.code(), Some(0));
-        assert!(text(&help.stdout).contains("\nreplace  Prints a task file with SET"));
+        let usage = format!("usage: channel-check {command} [--");
+        assert!(text(&help.stdout).starts_with(&usage));
     }
     // Each has the option of its kind only.
     for (command, option) in [("preview", "--diff"), ("replace", "--json")] {

@@ -1,34 +1,29 @@
-//! `workbench watch`, run as a program.
+//! `channel-check watch`, run as a program.
+
+mod folder;
 
 use std::collections::{BTreeMap, BTreeSet};
 use std::io::Write;
-use std::path::PathBuf;
-use std::process::{Command, Output, Stdio};
+use std::process::{Output, Stdio};
 
+use folder::{text, tool, Folder};
 use workbench::generate::Written;
 use workbench::reference::document::Form;
 use workbench::reference::print::print;
 use workbench::samples::{a_with, a_without_tables, A, RELAY, SERVER, TWO_SENDERS, UNPACKING};
 
-/// A folder of its own for each test, with a file `f` in it.
-struct Folder {
-    path: PathBuf,
-}
-
 impl Folder {
+    /// A folder of its own for each test, with a file `f` in it.
     fn with(test: &str, content: impl AsRef<[u8]>) -> Folder {
-        let path = PathBuf::from(env!("CARGO_TARGET_TMPDIR"))
-            .join("watch")
-            .join(test);
-        std::fs::create_dir_all(&path).unwrap();
-        std::fs::write(path.join("f"), content).unwrap();
-        Folder { path }
+        let folder = Folder::new(&format!("watch {test}"));
+        folder.put("f", content);
+        folder
     }
 
     /// Watches the file, with some words before its name, and writes to standard
     /// input.
     fn watch(&self, words: &[&str], input: &str) -> Output {
-        let mut child = Command::new(env!("CARGO_BIN_EXE_channel-check"))
+        let mut child = tool()
             .current_dir(&self.path)
             .arg("watch")
             .args(words)
@@ -44,10 +39,6 @@ impl Folder {
         drop(stdin);
         child.wait_with_output().unwrap()
     }
-}
-
-fn text(bytes: &[u8]) -> &str {
-    std::str::from_utf8(bytes).expect("the tool prints UTF-8")
 }
 
 /// What is printed of a file, which must have a status.
@@ -342,7 +333,7 @@ fn a_file_that_cannot_be_loaded_is_refused_as_check_does() {
         (&["--svg"], &["check"]),
     ] {
         let output = folder.watch(words, "1\n");
-        let mut command = Command::new(env!("CARGO_BIN_EXE_channel-check"));
+        let mut command = tool();
         let checked = command.current_dir(&folder.path).args(check).arg("f");
         let checked = checked.output().unwrap();
         assert_eq!(output.status.code(), Some(1));
@@ -354,7 +345,7 @@ fn a_file_that_cannot_be_loaded_is_refused_as_check_does() {
         assert_eq!(text(told), text(&checked.stdout));
         assert!(other.is_empty());
     }
-    let gone = Command::new(env!("CARGO_BIN_EXE_channel-check"))
+    let gone = tool()
         .args(["watch", "--random", "1", "no-such-file"])
         .output()
         .unwrap();
@@ -370,7 +361,7 @@ fn what_judge_alone_refuses_is_watched_with_a_note() {
     assert_eq!(text(&output.stdout), expected);
     assert_eq!(
         text(&output.stderr),
-        "workbench: f: check refuses this file with refusal 10 at line 2: the tables break the \
+        "channel-check: f: check refuses this file with refusal 10 at line 2: the tables break the \
          flow rule of this row; a run needs no tables, so it can be watched\n"
     );
     // A false claim.
@@ -674,7 +665,7 @@ fn text_in_a_picture_is_escaped() {
     let folder = Folder::with("escape", A);
     let name = "a<b>&\"c'.txt";
     std::fs::write(folder.path.join(name), A).unwrap();
-    let output = Command::new(env!("CARGO_BIN_EXE_channel-check"))
+    let output = tool()
         .current_dir(&folder.path)
         .args(["watch", "--svg", "--random", "1", name])
         .output()
@@ -740,27 +731,23 @@ fn bad_usage_is_told() {
         ),
         (&["watch", "-"], "so the file cannot be `-`"),
     ];
-    let run = |words: &[&str]| {
-        let mut command = Command::new(env!("CARGO_BIN_EXE_channel-check"));
-        let command = command.args(words).stdin(Stdio::null());
-        command.output().unwrap()
-    };
+    let folder = Folder::new("watch usage");
     for (words, message) in cases {
-        let output = run(words);
+        let output = folder.run(words);
         assert_eq!(output.status.code(), Some(2), "{words:?}");
         assert!(output.stdout.is_empty());
         let stderr = text(&output.stderr);
         assert!(stderr.contains(message), "{message} in {stderr}");
-        assert!(stderr.contains("       workbench watch [--random SEED"));
+        assert!(stderr.ends_with("\nsee `channel-check help watch`\n"));
     }
-    let help = run(&["watch", "--help"]);
+    let help = folder.run(&["watch", "--help"]);
     assert_eq!(help.status.code(), Some(0));
     assert!(text(&help.stdout).contains("  --replay MOVES  "));
 }
 
 #[test]
 fn the_file_may_be_standard_input_where_nobody_is_asked() {
-    let mut child = Command::new(env!("CARGO_BIN_EXE_channel-check"))
+    let mut child = tool()
         .args(["watch", "--replay", A_TO_THE_END, "-"])
         .stdin(Stdio::piped())
         .stdout(Stdio::piped())

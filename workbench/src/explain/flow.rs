@@ -7,7 +7,7 @@ use crate::reference::print::{print, table_text};
 use crate::text::lines;
 
 const HINT: &str =
-    "`workbench infer FILE` prints the file with the smallest tables that keep the flow rules.";
+    "`channel-check infer FILE` prints the file with the smallest tables that keep the flow rules.";
 
 fn in_words(table: Table) -> String {
     match table {

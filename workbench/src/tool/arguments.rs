@@ -1,231 +1,166 @@
-//! The words after the tool's name.
+//! The words after the tool's name: which command they ask for, and how it is to
+//! speak. Options may stand before or after the command.
 
-use std::ffi::OsString;
-use std::path::PathBuf;
+use std::ffi::{OsStr, OsString};
+use std::path::Path;
 
-use super::tables::Given;
-use super::watch::{read_moves, Chosen, Format, Options};
-use crate::reference::document::Listed;
-use crate::reference::read::{read_name, read_set};
+use super::names::shown;
+use super::nearest::nearest;
+use super::screen::{Color, Manner};
+use super::verbs::{verb, Action, Opt, Verb, COMMON, VERBS};
+use super::words::Words;
+use super::{help, show, NAME};
 
-pub const USAGE: &str = "\
-usage: workbench check [--json] FILE..
-       workbench infer [--diff] FILE
-       workbench preview [--json] FILE NAME SET
-       workbench replace [--diff] FILE NAME SET
-       workbench watch [--random SEED [--moves N] | --replay MOVES]
-                       [--json | --svg] FILE
-
-check    Checks task files with the proved checker: whether the tables keep the
-         flow rules and every claim holds. A file is accepted, with the verdict
-         on each of its channels, or refused, with the place and the reason.
-
-infer    Prints a task file with the smallest tables that keep the flow rules in
-         place of its own, which may be any or none; rows and claims stay. A file
-         that cannot be loaded is refused as check does, on standard error.
-
-preview  Shows what check would say of a task file if SET stood in place of the
-         set of NAME, beside what it says now. Lines count in the text with SET.
-
-replace  Prints a task file with SET in place of the set of NAME. A file or set
-         that is refused is told on standard error.
-
-watch    Runs the program of a task file with the proved checker, move by move,
-         and shows after each move where the threads stand, what each can do,
-         which threads wait at which channel, and the moves that are possible. A
-         move is chosen by its number, a line of standard input for each; `u`
-         undoes the last, `q` quits. At the end come the messages that went, and
-         the moves as --replay takes them. The file's tables and claims need not
-         hold.
-
-NAME and SET are written as in a file, SET as one word of the shell: '[u 3 5]',
-'[3]', or '[]' for the empty set, which has no line in a file.
-
-The file `-` is standard input.
-
-  --json   of check and preview: one JSON object to a line for each file
-  --diff   of infer and replace: what changes, set by set, in place of the file;
-           an empty set is shown as []
-
-Of watch:
-
-  --random SEED   the moves are drawn at random, the same for the same seed
-  --moves N       of --random: N moves at most; else as many as there are
-  --replay MOVES  the moves are these: THREAD or SENDER+RECEIVER, with commas
-                  between, as in 0,0,1+0,2
-  --json          one JSON object to a line for the beginning, each move and the
-                  end
-  --svg           a picture of the threads and messages in place of the text
-
-  --help   this text
-
-Exit status: 0 all accepted, the tables found or replaced, or the run watched; 1
-some file, set or move refused; 2 bad usage or a file that cannot be read.";
-
-#[derive(Debug)]
-pub enum Command {
-    Help,
-    Check {
-        files: Vec<PathBuf>,
-        json: bool,
-    },
-    Infer {
-        file: PathBuf,
-        diff: bool,
-    },
-    Preview {
-        file: PathBuf,
-        given: Given,
-        json: bool,
-    },
-    Replace {
-        file: PathBuf,
-        given: Given,
-        diff: bool,
-    },
-    Watch(Options),
+/// What is wrong with the words, in a line, and the page that helps.
+pub struct Mistake {
+    message: String,
+    verb: Option<&'static Verb>,
 }
 
-/// The command that the words ask for, or what is wrong with them.
-pub fn parse(mut words: impl Iterator<Item = OsString>) -> Result<Command, String> {
-    let Some(command) = words.next() else {
-        return Err("no command given".to_string());
-    };
-    match command.to_str() {
-        Some("--help" | "-h") => Ok(Command::Help),
-        Some("check") => on_words(words, "--json", |words, json| {
-            let files = words.into_iter().map(PathBuf::from).collect();
-            Ok(Command::Check { files, json })
-        }),
-        Some("infer") => on_words(words, "--diff", |words, diff| {
-            let [file] = <[OsString; 1]>::try_from(words)
-                .map_err(|words| format!("infer takes one file, not {}", words.len()))?;
-            let file = file.into();
-            Ok(Command::Infer { file, diff })
-        }),
-        Some("preview") => on_words(words, "--json", |words, json| {
-            let (file, given) = file_and_set("preview", words)?;
-            Ok(Command::Preview { file, given, json })
-        }),
-        Some("replace") => on_words(words, "--diff", |words, diff| {
-            let (file, given) = file_and_set("replace", words)?;
-            Ok(Command::Replace { file, given, diff })
-        }),
-        Some("watch") => watch(words),
-        _ => Err(format!("unknown command `{}`", command.display())),
+impl Mistake {
+    fn new(message: String, verb: Option<&'static Verb>) -> Mistake {
+        Mistake { message, verb }
+    }
+
+    pub fn message(&self) -> &str {
+        &self.message
+    }
+
+    /// Two lines for standard error.
+    pub fn text(&self) -> String {
+        let verb = self.verb.filter(|verb| verb.name != "help");
+        let page = verb.map_or(String::new(), |verb| format!(" {}", verb.name));
+        format!("{NAME}: {}\nsee `{NAME} help{page}`\n", self.message)
     }
 }
 
-/// A command on the words that are no options, a file first, with or without its
-/// option.
-fn on_words(
+/// What the words ask for.
+pub fn parse(words: impl Iterator<Item = OsString>) -> Result<(Manner, Action), Mistake> {
+    let (verb, mut words) = taken_apart(words)?;
+    if words.has("--version") {
+        return Ok((Manner::default(), show(help::version())));
+    }
+    if words.has("--help") {
+        let page = verb.map_or_else(help::list, help::page);
+        return Ok((Manner::default(), show(page)));
+    }
+    let mistake = |message| Mistake::new(message, verb);
+    let manner = manner(&words).map_err(mistake)?;
+    let Some(verb) = verb else {
+        return Err(mistake("no command given".to_string()));
+    };
+    words.verb = verb.name;
+    let action = (verb.parse)(words).map_err(mistake)?;
+    Ok((manner, action))
+}
+
+/// The command and its words.
+fn taken_apart(
     words: impl Iterator<Item = OsString>,
-    option: &str,
-    command: impl FnOnce(Vec<OsString>, bool) -> Result<Command, String>,
-) -> Result<Command, String> {
-    let mut others = vec![];
-    let mut asked = false;
-    let mut options = true;
-    for word in words {
-        let is_option = options && word.len() > 1 && word.as_encoded_bytes()[0] == b'-';
-        match word.to_str() {
-            Some("--help" | "-h") if is_option => return Ok(Command::Help),
-            Some("--") if is_option => options = false,
-            Some(word) if is_option && word == option => asked = true,
-            _ if is_option => return Err(format!("unknown option `{}`", word.display())),
-            _ => others.push(word),
-        }
-    }
-    if others.is_empty() {
-        return Err("no file given".to_string());
-    }
-    command(others, asked)
-}
-
-/// The file, and the set given for a name, that a command takes.
-fn file_and_set(command: &str, words: Vec<OsString>) -> Result<(PathBuf, Given), String> {
-    let [file, name, set] = <[OsString; 3]>::try_from(words).map_err(|words| {
-        let count = words.len();
-        format!("{command} takes FILE NAME SET, not {count} words; quote the set: '[u 3 5]'")
-    })?;
-    let name = name.to_str().and_then(read_name).ok_or(format!(
-        "`{}` is no name: a name is a number of one to three digits, as in a file",
-        name.display()
-    ))?;
-    let set = match set.to_str() {
-        Some("[]") => Listed::default(),
-        text => text.and_then(read_set).ok_or(format!(
-            "`{}` is no set: it is written as in a file, like '[u 3 5]' with `u` first if at \
-             all, or '[]' if it is empty",
-            set.display()
-        ))?,
-    };
-    Ok((file.into(), Given { name, set }))
-}
-
-/// The watch that the words ask for.
-fn watch(mut words: impl Iterator<Item = OsString>) -> Result<Command, String> {
-    let (mut random, mut most, mut replay) = (None, None, None);
-    let (mut json, mut svg) = (false, false);
-    let mut files = vec![];
-    let mut options = true;
+) -> Result<(Option<&'static Verb>, Words), Mistake> {
+    let mut words = words;
+    let mut asked: Option<&'static Verb> = None;
+    let mut taken = Words::default();
+    let mut ended = false;
     while let Some(word) = words.next() {
-        let is_option = options && word.len() > 1 && word.as_encoded_bytes()[0] == b'-';
-        let mut value = |option: &str| {
-            let value = words.next().ok_or(format!("{option} needs a value"))?;
-            let value = value.into_string();
-            value.map_err(|value| format!("{option} cannot be `{}`", value.display()))
-        };
-        match word.to_str() {
-            Some("--help" | "-h") if is_option => return Ok(Command::Help),
-            Some("--") if is_option => options = false,
-            Some("--json") if is_option => json = true,
-            Some("--svg") if is_option => svg = true,
-            Some("--random") if is_option => {
-                random = Some(number("--random", &value("--random")?)?)
-            }
-            Some("--moves") if is_option => most = Some(number("--moves", &value("--moves")?)?),
-            Some("--replay") if is_option => replay = Some(read_moves(&value("--replay")?)?),
-            _ if is_option => return Err(format!("unknown option `{}`", word.display())),
-            _ => files.push(PathBuf::from(word)),
+        let is_option = !ended && word.len() > 1 && word.as_encoded_bytes()[0] == b'-';
+        if is_option && word == "--" {
+            ended = true;
+        } else if is_option {
+            taken.options.push(option(asked, &word, &mut words)?);
+        } else if asked.is_none() {
+            asked = Some(command(&word)?);
+        } else {
+            taken.others.push(word);
         }
     }
-    let chosen = match (random, most, replay) {
-        (None, None, None) => Chosen::Asked,
-        (Some(seed), most, None) => Chosen::Random {
-            seed,
-            most: most.map_or(usize::MAX, |most| {
-                usize::try_from(most).unwrap_or(usize::MAX)
-            }),
-        },
-        (None, None, Some(moves)) => Chosen::Replay(moves),
-        (None, Some(_), _) => return Err("--moves goes with --random".to_string()),
-        (Some(_), _, Some(_)) => return Err("--random and --replay do not go together".to_string()),
-    };
-    let format = match (json, svg) {
-        (false, false) => Format::Text,
-        (true, false) => Format::Json,
-        (false, true) => Format::Svg,
-        (true, true) => return Err("--json and --svg do not go together".to_string()),
-    };
-    let [file] = <[PathBuf; 1]>::try_from(files).map_err(|files| match files.len() {
-        0 => "no file given".to_string(),
-        many => format!("watch takes one file, not {many}"),
-    })?;
-    if chosen == Chosen::Asked && file.as_os_str() == "-" {
-        let told = "the moves are read from standard input, so the file cannot be `-`";
-        return Err(told.to_string());
+    // Options before the command may be those of another.
+    if let Some(verb) = asked {
+        let others = taken.options.iter().map(|(name, _)| *name);
+        let other = others.filter(|name| !options_of(asked).any(|option| option.name == *name));
+        if let Some(name) = other.into_iter().next() {
+            return Err(unknown_option(Some(verb), OsStr::new(name)));
+        }
     }
-    Ok(Command::Watch(Options {
-        file,
-        chosen,
-        format,
-    }))
+    Ok((asked, taken))
 }
 
-/// The number that an option is given.
-fn number(option: &str, value: &str) -> Result<u64, String> {
-    let digits = value.bytes().all(|byte| byte.is_ascii_digit());
-    let number = digits.then(|| value.parse().ok()).flatten();
-    number.ok_or(format!("{option} needs a number, not `{value}`"))
+/// The options of a command; of all, if it is not known yet.
+fn options_of(asked: Option<&'static Verb>) -> impl Iterator<Item = &'static Opt> {
+    let verbs = VERBS.into_iter();
+    let own = verbs.filter(move |verb| asked.is_none_or(|asked| asked.name == verb.name));
+    own.flat_map(|verb| verb.options).chain(&COMMON)
+}
+
+/// An option, with its value if it takes one: the part behind `=`, or the next word.
+fn option(
+    asked: Option<&'static Verb>,
+    word: &OsStr,
+    words: &mut impl Iterator<Item = OsString>,
+) -> Result<(&'static str, Option<OsString>), Mistake> {
+    let (name, joined) = match word.to_str().map(|text| (text, text.split_once('='))) {
+        Some((text, Some((name, value)))) if text.starts_with("--") => (name, Some(value)),
+        Some((text, _)) => (text, None),
+        None => return Err(unknown_option(asked, word)),
+    };
+    let option = options_of(asked).find(|option| option.name == name || option.short == Some(name));
+    let Some(option) = option else {
+        return Err(unknown_option(asked, OsStr::new(name)));
+    };
+    let mistake = |message: &str| Mistake::new(format!("{} {message}", option.name), asked);
+    match (option.value, joined) {
+        (None, None) => Ok((option.name, None)),
+        (None, Some(_)) => Err(mistake("takes no value")),
+        (Some(_), Some(value)) => Ok((option.name, Some(value.into()))),
+        (Some(_), None) => {
+            let value = words.next().ok_or_else(|| mistake("needs a value"))?;
+            Ok((option.name, Some(value)))
+        }
+    }
+}
+
+fn unknown_option(asked: Option<&'static Verb>, word: &OsStr) -> Mistake {
+    let of = asked.map_or(String::new(), |verb| format!(" of {}", verb.name));
+    let names = options_of(asked).map(|option| option.name);
+    let meant = word.to_str().and_then(|word| nearest(word, names));
+    let message = format!(
+        "unknown option `{}`{of}{}",
+        shown(word),
+        did_you_mean(meant)
+    );
+    Mistake::new(message, asked)
+}
+
+/// The command of a name. A file in its place shows what was left out.
+pub fn command(word: &OsStr) -> Result<&'static Verb, Mistake> {
+    if let Some(verb) = word.to_str().and_then(verb) {
+        return Ok(verb);
+    }
+    let names = VERBS.iter().map(|verb| verb.name);
+    let meant = word.to_str().and_then(|word| nearest(word, names));
+    let name = shown(word);
+    let meant = match meant {
+        None if Path::new(word).exists() => Some(format!("check {name}")),
+        meant => meant.map(str::to_string),
+    };
+    let message = format!("unknown command `{name}`{}", did_you_mean(meant.as_deref()));
+    Err(Mistake::new(message, None))
+}
+
+fn did_you_mean(word: Option<&str>) -> String {
+    word.map_or(String::new(), |word| format!("; did you mean `{word}`?"))
+}
+
+/// How the tool is to speak.
+fn manner(words: &Words) -> Result<Manner, String> {
+    let color = match words.value("--color")? {
+        None => Color::default(),
+        Some(given) => {
+            let color = Color::WORDS.into_iter().find(|(word, _)| *word == given);
+            let told = || format!("--color is auto, always or never, not `{}`", shown(given));
+            color.ok_or_else(told)?.1
+        }
+    };
+    let quiet = words.has("--quiet");
+    Ok(Manner { quiet, color })
 }

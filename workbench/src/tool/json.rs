@@ -1,17 +1,31 @@
 //! Outcomes as JSON, an object to a line for each file; and the parts of JSON.
 
+use std::path::Path;
+
+use super::names::shown;
 use super::outcome::{Channel, Outcome};
 use crate::checker::Refusal;
 use crate::reference::document::Word;
 
 /// A field: its key, and its value as JSON.
-type Field = (&'static str, String);
+pub type Field = (&'static str, String);
 
 /// The outcome of one file.
-pub fn line(file: &str, outcome: &Outcome) -> String {
-    let mut fields = vec![("file", string(file))];
+pub fn line(file: &Path, outcome: &Outcome) -> String {
+    let mut fields = self::file(file);
     fields.extend(self::outcome(outcome));
     object(fields) + "\n"
+}
+
+/// A file's name, as it is; one that is no text is escaped, and said to be.
+pub fn file(file: &Path) -> Vec<Field> {
+    match file.to_str() {
+        Some(name) => vec![("file", string(name))],
+        None => vec![
+            ("file", string(&shown(file))),
+            ("escaped", "true".to_string()),
+        ],
+    }
 }
 
 /// What judge answers.

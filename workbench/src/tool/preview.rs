@@ -48,21 +48,21 @@ pub fn text(file: &str, preview: &Preview, colours: bool) -> String {
     text += &report::head(&format!("{file} as it is"), preview.now, colours);
     text += &report::text(&format!("{file} with this set"), &preview.then, colours);
     if let Outcome::Refused { .. } = preview.then {
-        text += "  Lines count in the text with this set, which `workbench replace` prints.\n";
+        text += "  Lines count in the text with this set, which `channel-check replace` prints.\n";
     }
     text
 }
 
 /// The preview of one file, as JSON: the fields of `check` tell of the file with
 /// the set, `now` of the file as it is.
-pub fn line(file: &str, preview: &Preview) -> String {
-    let mut fields = vec![
-        ("file", string(file)),
+pub fn line(file: &Path, preview: &Preview) -> String {
+    let mut fields = json::file(file);
+    fields.extend([
         ("name", preview.name.to_string()),
         ("before", string(&set_text(&preview.before))),
         ("after", string(&set_text(&preview.after))),
         ("now", object(json::answer(preview.now))),
-    ];
+    ]);
     fields.extend(json::outcome(&preview.then));
     object(fields) + "\n"
 }

@@ -18,7 +18,8 @@ use std::io::{self, BufRead, IsTerminal, Write};
 use std::path::{Path, PathBuf};
 
 use super::outcome::{read_file, refused, Outcome};
-use super::{ACCEPTED, REFUSED};
+use super::screen::tell;
+use super::{ACCEPTED, NAME, REFUSED};
 use crate::checker::{Move, Refusal};
 use crate::generate::Random;
 use going::{Going, Program};
@@ -65,13 +66,12 @@ pub fn watch(out: &mut impl Write, program: &Program, options: &Options) -> io::
     let mut going = match Going::begin(program) {
         Ok(going) => going,
         Err(refusal) => {
-            eprintln!("workbench: begin: {refusal}");
+            tell(&format!("{NAME}: begin: {refusal}\n"));
             return Ok(REFUSED);
         }
     };
-    let name = options.file.display().to_string();
     let asked = options.chosen == Chosen::Asked;
-    let mut show = Show::new(out, &name, options.format, asked);
+    let mut show = Show::new(out, &options.file, options.format, asked);
     show.begin(&mut going)?;
     let refused = match &options.chosen {
         Chosen::Asked => {

@@ -3,6 +3,11 @@
 use std::path::PathBuf;
 use std::process::{Command, Output, Stdio};
 
+/// The tool, as a program to run.
+pub fn tool() -> Command {
+    Command::new(env!("CARGO_BIN_EXE_channel-check"))
+}
+
 /// A folder of its own for each test, with files in it.
 pub struct Folder {
     pub path: PathBuf,
@@ -21,7 +26,7 @@ impl Folder {
     }
 
     pub fn run(&self, words: &[&str]) -> Output {
-        let mut command = Command::new(env!("CARGO_BIN_EXE_channel-check"));
+        let mut command = tool();
         command.current_dir(&self.path).args(words);
         command.stdin(Stdio::null()).output().unwrap()
     }

@@ -23,6 +23,8 @@
 //! `replay`, the moves made; and `refused`: null, or the `move` that was refused
 //! with its `number` and `reason`.
 
+use std::path::Path;
+
 use super::going::{Going, Message};
 use super::moves::moves_text;
 use super::reading::{Channel, End};
@@ -30,13 +32,13 @@ use super::text;
 use super::view::{Can, Seen, View};
 use super::Refused;
 use crate::checker::Move;
-use crate::tool::json::{array, object, string};
+use crate::tool::json::{array, file as json_file, object, string};
 
 /// What a line tells of.
 #[derive(Clone, Copy)]
 pub enum Event<'a> {
     /// The beginning, with the file's name.
-    Begin(&'a str),
+    Begin(&'a Path),
     /// The last move.
     Made,
     Undone(Move),
@@ -73,7 +75,11 @@ pub fn state(going: &mut Going, event: Event) -> String {
     let view = going.view();
     let number = going.made.len();
     let mut fields = match (event, going.made.last()) {
-        (Event::Begin(file), _) => vec![("event", string("begin")), ("file", string(file))],
+        (Event::Begin(file), _) => {
+            let mut fields = vec![("event", string("begin"))];
+            fields.extend(json_file(file));
+            fields
+        }
         (Event::Undone(undone), _) => vec![
             ("event", string("undone")),
             ("number", (number + 1).to_string()),

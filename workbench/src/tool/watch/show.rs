@@ -1,22 +1,25 @@
 //! Where a run is shown: as text or JSON on the way, or as a picture at the end.
 
 use std::io::{self, IsTerminal, Write};
+use std::path::Path;
 
 use super::going::Going;
 use super::{json, svg, text, Format, Refused};
 use crate::checker::Move;
+use crate::tool::names::shown;
+use crate::tool::screen::tell;
 
 /// Shows a run in one of the formats.
 pub struct Show<'a, W: Write> {
     out: &'a mut W,
-    file: &'a str,
+    file: &'a Path,
     format: Format,
     /// Whether somebody is asked for the moves, and so must see them.
     asked: bool,
 }
 
 impl<'a, W: Write> Show<'a, W> {
-    pub fn new(out: &'a mut W, file: &'a str, format: Format, asked: bool) -> Show<'a, W> {
+    pub fn new(out: &'a mut W, file: &'a Path, format: Format, asked: bool) -> Show<'a, W> {
         Show {
             out,
             file,
@@ -40,7 +43,7 @@ impl<'a, W: Write> Show<'a, W> {
             self.out.write_all(words.as_bytes())?;
             return self.out.flush();
         }
-        eprint!("{words}");
+        tell(words);
         Ok(())
     }
 
@@ -63,7 +66,7 @@ impl<'a, W: Write> Show<'a, W> {
 
     /// The beginning.
     pub fn begin(&mut self, going: &mut Going) -> io::Result<()> {
-        let happened = format!("{}: a run begins", self.file);
+        let happened = format!("{}: a run begins", shown(self.file));
         self.state(going, json::Event::Begin(self.file), &happened)
     }
 
@@ -89,7 +92,7 @@ impl<'a, W: Write> Show<'a, W> {
                 if let Some(refused) = refused {
                     self.say(&text::refused(going, refused))?;
                 }
-                svg::picture(self.file, going)
+                svg::picture(&shown(self.file), going)
             }
         };
         self.out.write_all(text.as_bytes())?;
