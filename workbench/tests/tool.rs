@@ -63,7 +63,7 @@ fn a_refused_file_has_line_place_and_reason() {
     assert_eq!(
         refused("rule", a_with("[flow 4 [u]]", "")),
         "\
-f: refused 10 at line 6: the tables break the flow rule of this row
+f:6:16: refused 10: the tables break the flow rule of this row
   6 | [row 4 [bind 4 [sync 3] 5]]
     |                ^^^^^^^^
   Missing from the set of name 4: unit (`u`); it has no line, so it is empty.
@@ -131,7 +131,7 @@ fn infer_shows_what_changes_set_by_set() {
 fn infer_completes_samples_without_tables() {
     for sample in [SERVER, RELAY, UNPACKING] {
         let before = refused("complete", sample);
-        assert!(before.starts_with("f: refused 10 at line "), "{before}");
+        assert!(before.contains(": refused 10: "), "{before}");
         let complete = inferred("complete", sample, &[]);
         let folder = Folder::new("complete");
         let output = folder.put("complete", complete).run(&["check", "complete"]);
@@ -175,7 +175,7 @@ fn a_false_claim_has_two_walks() {
     assert_eq!(
         refused("parted", TWO_SENDERS.replace("fan-in", "fan-out")),
         "\
-f: refused 11 at line 15: the claim does not hold
+f:15:10: refused 11: the claim does not hold
   15 | [claim 0 fan-out]
      |          ^^^^^^^
   By the tables one run may send on channel row 0 at row 3 and at row 5; \
@@ -203,7 +203,7 @@ fn a_false_claim_of_one_sync_has_two_sends_or_two_receives() {
     assert_eq!(
         refused("receives in turn", claimed(TWO_RECEIVES)),
         "\
-f: refused 11 at line 19: the claim does not hold
+f:19:10: refused 11: the claim does not hold
   19 | [claim 0 one-sync]
      |          ^^^^^^^^
   By the tables one run may receive on channel row 0 at row 6 and at row 7; \
@@ -241,143 +241,141 @@ fn every_number_is_explained() {
     let spawn = "[row 2 [bind 2 [spawn 3] 6]]";
     let sync = "[row 4 [bind 4 [sync 3] 5]]";
     let cases: [(&str, String, &str, &str); 23] = [
-        ("1", "x".repeat(32_769), "refused 1:", "at most 32768 bytes"),
         (
-            "2",
-            String::new(),
-            "refused 2 at line 1:",
-            "The file is empty",
+            "1",
+            "x".repeat(32_769),
+            "f: refused 1: ",
+            "at most 32768 bytes",
         ),
+        ("2", String::new(), "f:1:", "The file is empty"),
         (
             "2",
             A.replace("1]\n[row 0", "2]\n[row 0"),
-            "line 1:",
+            "f:1:",
             "must be `[dispenser 1]`",
         ),
         (
             "2",
             A.trim_end().to_string(),
-            "line 19:",
+            "f:19:",
             "not ended by byte 10",
         ),
         (
             "2",
             a_with(sync, "[row 4 [bind 4 [synk 3] 5]]"),
-            "line 6:",
+            "f:6:",
             "`synk` stands",
         ),
         (
             "2",
             a_with(sync, "[row 4 [bind 04 [sync 3] 5]]"),
-            "line 6:",
+            "f:6:",
             "no leading zero",
         ),
         (
             "2",
             a_with("[flow 0 [u]]", "[flow 0 []]"),
-            "line 11:",
+            "f:11:",
             "never written empty",
         ),
         (
             "2",
             a_with("[flow 0 [u]]", "[flow 0 [1 u]]"),
-            "line 11:",
+            "f:11:",
             "`u` may stand first only",
         ),
         (
             "2",
             a_with("[claim 1 one-shot]", "[claim 1 one-synch]"),
-            "line 19:",
+            "f:19:",
             "Here `one-synch` stands; expected is `one-shot`, `one-to-one`, `fan-out`, `fan-in`, \
              `one-sync` or `many`.",
         ),
         (
             "2",
             format!("{A}[row 9 [result 0]]\n"),
-            "line 20:",
+            "f:20:",
             "may not follow a claim line",
         ),
         (
             "2",
             A.replace('\n', "\r\n"),
-            "line 1:",
+            "f:1:",
             "must be `[dispenser 1]`",
         ),
         (
             "3",
             a_with("[flow 6 [u]]", "[flow 160 [u]]"),
-            "line 17:",
+            "f:17:",
             "160 is above 159",
         ),
         (
             "4",
             "[dispenser 1]\n".to_string(),
-            "line 2:",
+            "f:2:",
             "must have at least row 0",
         ),
-        ("4", a_with(spawn, ""), "line 4:", "here row 2 must stand"),
+        ("4", a_with(spawn, ""), "f:4:", "here row 2 must stand"),
         (
             "5",
             a_with("[flow 4 [u]]", "[flow 3 [u]]"),
-            "line 15:",
+            "f:15:",
             "flow 3 follows flow 3",
         ),
         (
             "5",
             a_with("[flow 4 [u]]", "[flow 4 [3 3]]"),
-            "line 15:",
+            "f:15:",
             "but 3 follows 3",
         ),
         (
             "6",
             a_with(spawn, "[row 2 [bind 2 [spawn 9] 6]]"),
-            "line 4:",
+            "f:4:",
             "row 9, which is absent",
         ),
         (
             "6",
             a_with(sync, "[row 4 [bind 4 [sync 3] 3]]"),
-            "line 6:",
+            "f:6:",
             "which is not greater",
         ),
         (
             "6",
             a_with(spawn, "[row 2 [bind 2 [spawn 6] 6]]"),
-            "line 4:",
+            "f:4:",
             "by row 2 twice",
         ),
         (
             "7",
             a_with(sync, "[row 4 [bind 3 [sync 3] 5]]"),
-            "line 6:",
+            "f:6:",
             "bound already by row 3",
         ),
         (
             "8",
             a_with(sync, "[row 4 [bind 4 [sync 4] 5]]"),
-            "line 6:",
+            "f:6:",
             "not in scope in its own",
         ),
         (
             "9",
             a_with("[flow 6 [u]]", "[flow 9 [u]]"),
-            "line 17:",
+            "f:17:",
             "bound nowhere",
         ),
         (
             "9",
             a_with("[flow 6 [u]]", "[flow 6 [u 7]]"),
-            "line 17:",
+            "f:17:",
             "row 7 is a sync row",
         ),
     ];
     for (number, file, place, reason) in cases {
         let shown = refused("numbers", file);
-        assert!(
-            shown.starts_with(&format!("f: refused {number}")),
-            "{shown}"
-        );
-        assert!(shown.contains(place), "{place} in {shown}");
+        let refused = format!(": refused {number}: ");
+        assert!(shown.contains(&refused), "{shown}");
+        assert!(shown.starts_with(place), "{place} in {shown}");
         assert!(shown.contains(reason), "{reason} in {shown}");
         assert!(number == "1" || shown.contains('^'), "{shown}");
     }
@@ -403,7 +401,7 @@ fn json_for_machines() {
         lines[0],
         r#"{"file": "a \"b\".txt", "accepted": true, "claims": 1, "channels": [{"row": 1, "name": 1, "claim": "one-shot", "verdict": {"one-shot": true, "one-to-one": true, "fan-out": true, "fan-in": true, "one-sync": true}}]}"#
     );
-    let begin = r#"{"file": "r", "accepted": false, "number": 11, "line": 15, "reason": "the claim does not hold", "text": "[claim 0 fan-out]", "columns": [10, 16], "why": ["By the tables"#;
+    let begin = r#"{"file": "r", "accepted": false, "number": 11, "line": 15, "reason": "the claim does not hold", "column": 10, "text": "[claim 0 fan-out]", "columns": [10, 16], "why": ["By the tables"#;
     assert!(lines[1].starts_with(begin), "{}", lines[1]);
     assert!(lines[1].ends_with(r#""walks": [[0, 1, 2, 3], [0, 1, 2, 5]]}"#));
     assert_eq!(
@@ -466,6 +464,25 @@ fn bad_files_are_told() {
     assert!(shown("binary", 1).contains("  1 | \\xff\\x00\\xc3(\n    | ^^^^"));
     assert!(shown("accent", 1).contains("[un\\xc3\\xaft]"));
     assert!(shown("-dash", 0).starts_with("-dash: accepted"));
+}
+
+#[test]
+fn a_refusal_begins_with_its_place() {
+    // The column counts bytes from 1, as editors do, also behind others than ASCII.
+    for (file, place) in [
+        (
+            a_with("[flow 0 [u]]", "[flow 0 [1 u]]"),
+            "f:11:12: refused 2: ",
+        ),
+        (A.replace("[flow 0 [u]]", "[fl\u{f6}w 0 [u]]"), "f:11:2: "),
+        (A.replace("[flow 0 [u]]", "[flow 0 [\u{f6}]]"), "f:11:10: "),
+        (A.trim_end().to_string(), "f:19:19: refused 2: "),
+        // No line is at fault.
+        ("x".repeat(32_769), "f: refused 1: "),
+    ] {
+        let shown = refused("places", file);
+        assert!(shown.starts_with(place), "{place} in {shown}");
+    }
 }
 
 #[test]

@@ -4,8 +4,10 @@ use std::path::Path;
 
 use super::names::shown;
 use super::outcome::{Channel, Outcome};
+use super::report;
 use crate::checker::Refusal;
 use crate::reference::document::Word;
+use crate::text::{spelled, spelled_place};
 
 /// A field: its key, and its value as JSON.
 pub type Field = (&'static str, String);
@@ -59,11 +61,14 @@ pub fn outcome(outcome: &Outcome) -> Vec<Field> {
         } => {
             let mut fields = answer(Err(*refusal));
             if refusal.line > 0 {
-                fields.push(("text", string(&line.escape_ascii().to_string())));
+                let column = report::column(explanation.as_deref());
+                fields.push(("column", column.to_string()));
+                fields.push(("text", string(&spelled(line))));
             }
             if let Some(explanation) = explanation {
                 if let Some(mark) = &explanation.mark {
-                    let columns = [mark.start + 1, mark.end];
+                    let place = spelled_place(line, mark);
+                    let columns = [place.start + 1, place.end];
                     fields.push(("columns", array(columns.iter().map(usize::to_string))));
                 }
                 let why = explanation.why.iter();

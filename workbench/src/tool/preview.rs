@@ -45,8 +45,8 @@ pub fn text(file: &str, preview: &Preview, colours: bool) -> String {
         true => format!("{} stays\n", table_text(table, &preview.before)),
         false => change(table, &preview.before, &preview.after),
     };
-    text += &report::head(&format!("{file} as it is"), preview.now, colours);
-    text += &report::text(&format!("{file} with this set"), &preview.then, colours);
+    text += &report::answer(&format!("{file} as it is"), preview.now, colours);
+    text += &report::supposed(&format!("{file} with this set"), &preview.then, colours);
     if let Outcome::Refused { .. } = preview.then {
         text += "  Lines count in the text with this set, which `channel-check replace` prints.\n";
     }

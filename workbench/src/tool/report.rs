@@ -3,9 +3,10 @@
 use std::ops::Range;
 
 use super::outcome::{Channel, Outcome};
-use crate::checker::Refusal;
+use crate::checker::{Reason, Refusal};
 use crate::explain::Explanation;
 use crate::reference::document::Word;
+use crate::text::{spelled, spelled_place};
 
 /// The widest part of a line that is shown.
 const WIDEST: usize = 100;
@@ -30,18 +31,26 @@ fn styled(text: &str, style: Style, colours: bool) -> String {
     format!("\x1b[{code}m{text}\x1b[0m")
 }
 
-/// The outcome of one file.
+/// The outcome of one file. That of a refused one begins with FILE:LINE:COLUMN,
+/// by which editors find the place, or with FILE where no line is at fault.
 pub fn text(file: &str, outcome: &Outcome, colours: bool) -> String {
     match outcome {
         Outcome::Accepted { claims, channels } => {
-            head(file, Ok(*claims), colours) + &table(channels, colours)
+            answer(file, Ok(*claims), colours) + &table(channels, colours)
         }
         Outcome::Refused {
             refusal,
             line,
             explanation,
         } => {
-            let head = head(file, Err(*refusal), colours);
+            let place = match refusal.line {
+                0 => file.to_string(),
+                line => format!("{file}:{line}:{}", column(explanation.as_deref())),
+            };
+            let place = styled(&place, Style::Strong, colours);
+            let Refusal { reason, .. } = refusal;
+            let refused = refused(*reason, colours);
+            let head = format!("{place}: {refused}: {reason}\n");
             head + &why(refusal.line, line, explanation.as_deref(), colours)
         }
         Outcome::Unreadable(message) => {
@@ -52,9 +61,20 @@ pub fn text(file: &str, outcome: &Outcome, colours: bool) -> String {
     }
 }
 
-/// What judge answers of a file, in a line.
-pub fn head(file: &str, answer: Result<usize, Refusal>, colours: bool) -> String {
-    let file = styled(file, Style::Strong, colours);
+/// The column of a refusal: the first byte at fault in its line, counted from 1.
+pub fn column(explanation: Option<&Explanation>) -> usize {
+    let mark = explanation.and_then(|explanation| explanation.mark.as_ref());
+    mark.map_or(1, |mark| mark.start + 1)
+}
+
+fn refused(reason: Reason, colours: bool) -> String {
+    let refused = format!("refused {}", reason.number());
+    styled(&refused, Style::Bad, colours)
+}
+
+/// What judge answers of some text, in a line.
+pub fn answer(of: &str, answer: Result<usize, Refusal>, colours: bool) -> String {
+    let of = styled(of, Style::Strong, colours);
     match answer {
         Ok(claims) => {
             let hold = match claims {
@@ -63,17 +83,31 @@ pub fn head(file: &str, answer: Result<usize, Refusal>, colours: bool) -> String
                 _ => format!("{claims} claims hold"),
             };
             let accepted = styled("accepted", Style::Good, colours);
-            format!("{file}: {accepted}, {hold}\n")
+            format!("{of}: {accepted}, {hold}\n")
         }
         Err(Refusal { reason, line }) => {
-            let number = reason.number();
+            let refused = refused(reason, colours);
             let place = match line {
                 0 => String::new(),
                 _ => format!(" at line {line}"),
             };
-            let refused = styled(&format!("refused {number}"), Style::Bad, colours);
-            format!("{file}: {refused}{place}: {reason}\n")
+            format!("{of}: {refused}{place}: {reason}\n")
         }
+    }
+}
+
+/// The outcome of a text that is no file, so that no place in a file is named.
+pub fn supposed(of: &str, outcome: &Outcome, colours: bool) -> String {
+    match outcome {
+        Outcome::Refused {
+            refusal,
+            line,
+            explanation,
+        } => {
+            let answer = answer(of, Err(*refusal), colours);
+            answer + &why(refusal.line, line, explanation.as_deref(), colours)
+        }
+        _ => text(of, outcome, colours),
     }
 }
 
@@ -140,7 +174,6 @@ fn why(at: usize, line: &[u8], explanation: Option<&Explanation>, colours: bool)
 /// not printable are spelled out, and of a long line the part around the mark is
 /// shown.
 fn window(line: &[u8], mark: Option<Range<usize>>) -> (String, Option<Range<usize>>) {
-    let shown = |bytes: &[u8]| bytes.escape_ascii().to_string();
     let around = mark.as_ref().map_or(0, |mark| mark.start);
     let start = if line.len() <= WIDEST {
         0
@@ -152,12 +185,12 @@ fn window(line: &[u8], mark: Option<Range<usize>>) -> (String, Option<Range<usiz
         if start > 0 { ".. " } else { "" },
         if end < line.len() { " .." } else { "" },
     );
-    let text = format!("{before}{}{after}", shown(&line[start..end]));
+    let part = &line[start..end];
+    let text = format!("{before}{}{after}", spelled(part));
     let marked = mark.map(|mark| {
-        let column = |at: usize| before.len() + shown(&line[start..at.clamp(start, end)]).len();
-        let (from, to) = (column(mark.start), column(mark.end));
-        // A mark past the end of the line is one column wide.
-        from..to.max(from + 1)
+        let inside = mark.start.saturating_sub(start)..mark.end.saturating_sub(start);
+        let place = spelled_place(part, &inside);
+        before.len() + place.start..before.len() + place.end
     });
     (text, marked)
 }
