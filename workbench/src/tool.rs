@@ -8,13 +8,17 @@ mod names;
 mod nearest;
 mod outcome;
 mod outcomes;
+mod paths;
 mod preview;
+mod progress;
 mod report;
 mod screen;
+mod summary;
 mod tables;
 mod verbs;
 mod watch;
 mod words;
+mod workers;
 
 use std::io::{self, Write};
 use std::process::ExitCode;

@@ -42,7 +42,7 @@ fn the_table_has_a_line_for_each_channel() {
     let output = Folder::new("channels")
         .put("receipt", RECEIPT)
         .put("twice", TWO_RECEIVES)
-        .run(&["check", "receipt", "twice"]);
+        .run(&["check", "--verbose", "receipt", "twice"]);
     assert_eq!(output.status.code(), Some(0));
     assert_eq!(
         text(&output.stdout),
@@ -54,6 +54,7 @@ receipt: accepted, 2 claims hold
 twice: accepted, no claim to judge
   channel name  claim       one-shot    one-to-one  fan-out     fan-in      one-sync
   row 0   0     -           yes         yes         yes         yes         no
+2 files: 2 accepted
 "
     );
 }
@@ -432,7 +433,6 @@ fn the_status_is_the_worst_of_all_files() {
 #[test]
 fn bad_files_are_told() {
     let folder = Folder::new("files");
-    std::fs::create_dir_all(folder.path.join("folder")).unwrap();
     folder
         .put("large", vec![b'['; 10_000_000])
         .put("binary", [0xff, 0x00, 0xc3, 0x28, b'\n']);
@@ -453,10 +453,6 @@ fn bad_files_are_told() {
     assert_eq!(
         shown("gone", 2),
         "channel-check: gone: not checked: there is no such file\n"
-    );
-    assert_eq!(
-        shown("folder", 2),
-        "channel-check: folder: not checked: this is a folder, not a file\n"
     );
     assert!(
         shown("large", 1).starts_with("large: refused 1: the file has more than 32,768 bytes\n")

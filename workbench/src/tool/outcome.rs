@@ -58,14 +58,17 @@ pub fn load(path: &Path) -> Result<(Store, Counts), Outcome> {
 
 /// The bytes of a file, or the outcome of one that cannot be read.
 pub fn read_file(path: &Path) -> Result<Vec<u8>, Outcome> {
-    try_read(path).map_err(|error| {
-        Outcome::Unreadable(match error.kind() {
-            io::ErrorKind::NotFound => "there is no such file".to_string(),
-            io::ErrorKind::IsADirectory => "this is a folder, not a file".to_string(),
-            io::ErrorKind::PermissionDenied => "the file may not be read".to_string(),
-            _ => format!("the file cannot be read: {error}"),
-        })
-    })
+    try_read(path).map_err(|error| Outcome::Unreadable(trouble("file", &error)))
+}
+
+/// Why something of a kind cannot be read.
+pub fn trouble(kind: &str, error: &io::Error) -> String {
+    match error.kind() {
+        io::ErrorKind::NotFound => format!("there is no such {kind}"),
+        io::ErrorKind::IsADirectory => format!("this is a folder, not a {kind}"),
+        io::ErrorKind::PermissionDenied => format!("the {kind} may not be read"),
+        _ => format!("the {kind} cannot be read: {error}"),
+    }
 }
 
 /// Of a file that is too long no more bytes are read than show it.

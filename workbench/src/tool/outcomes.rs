@@ -20,16 +20,35 @@ pub fn status(outcome: &Outcome) -> u8 {
     }
 }
 
-/// Shows an outcome, as JSON or for people; the exit status. A file that cannot be
-/// read is a problem, but for who reads JSON an object as any other.
-pub fn show(screen: &mut Screen, file: &Path, outcome: &Outcome, json: bool) -> io::Result<u8> {
-    match outcome {
-        Outcome::Unreadable(_) if !json || screen.is_quiet() => problem(screen, file, outcome)?,
-        _ if json => screen.show(&json::line(file, outcome))?,
-        _ => {
-            let text = report::text(&shown(file), outcome, screen.colours());
-            screen.show(&text)?;
-        }
+/// How an outcome is shown.
+#[derive(Clone, Copy, Debug, PartialEq, Eq)]
+pub enum Form {
+    /// For people, with a table of channels.
+    Whole,
+    /// For people, an accepted file in one line.
+    Brief,
+    /// For machines.
+    Json,
+}
+
+/// Whether an outcome is told on standard error: that of a file that cannot be
+/// read. For who reads JSON it is an object as any other.
+pub fn is_problem(screen: &Screen, outcome: &Outcome, form: Form) -> bool {
+    let unreadable = matches!(outcome, Outcome::Unreadable(_));
+    unreadable && (form != Form::Json || screen.is_quiet())
+}
+
+/// Shows an outcome; the exit status.
+pub fn show(screen: &mut Screen, file: &Path, outcome: &Outcome, form: Form) -> io::Result<u8> {
+    if is_problem(screen, outcome, form) {
+        problem(screen, file, outcome)?;
+    } else {
+        let text = match form {
+            Form::Whole => report::text(&shown(file), outcome, screen.colours()),
+            Form::Brief => report::brief(&shown(file), outcome, screen.colours()),
+            Form::Json => json::line(file, outcome),
+        };
+        screen.show(&text)?;
     }
     Ok(status(outcome))
 }

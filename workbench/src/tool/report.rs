@@ -61,6 +61,14 @@ pub fn text(file: &str, outcome: &Outcome, colours: bool) -> String {
     }
 }
 
+/// The outcome of one of many files: an accepted one has one line.
+pub fn brief(file: &str, outcome: &Outcome, colours: bool) -> String {
+    match outcome {
+        Outcome::Accepted { claims, .. } => answer(file, Ok(*claims), colours),
+        _ => text(file, outcome, colours),
+    }
+}
+
 /// The column of a refusal: the first byte at fault in its line, counted from 1.
 pub fn column(explanation: Option<&Explanation>) -> usize {
     let mark = explanation.and_then(|explanation| explanation.mark.as_ref());

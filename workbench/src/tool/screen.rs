@@ -36,7 +36,7 @@ fn no_color() -> bool {
 }
 
 /// A terminal that can do no more than print.
-fn dumb() -> bool {
+pub fn dumb() -> bool {
     std::env::var_os("TERM").is_some_and(|value| value == "dumb")
 }
 

@@ -1,7 +1,7 @@
 //! `preview`: what check would say of a file with one set replaced.
 
 use super::{Opt, Verb};
-use crate::tool::outcomes::{show, status};
+use crate::tool::outcomes::{show, status, Form};
 use crate::tool::{names, preview};
 
 pub static VERB: Verb = Verb {
@@ -22,7 +22,10 @@ NAME and SET are written as in a file, SET as one word of the shell: '[u 3 5]',
         Ok(Box::new(move |screen| {
             let preview = match preview::preview(&file, &given) {
                 Ok(preview) => preview,
-                Err(outcome) => return show(screen, &file, &outcome, json),
+                Err(outcome) => {
+                    let form = if json { Form::Json } else { Form::Whole };
+                    return show(screen, &file, &outcome, form);
+                }
             };
             screen.show(&match json {
                 true => preview::line(&file, &preview),

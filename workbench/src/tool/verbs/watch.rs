@@ -3,7 +3,7 @@
 use std::io;
 
 use super::{Opt, Verb};
-use crate::tool::outcomes::{problem, show, status};
+use crate::tool::outcomes::{problem, show, status, Form};
 use crate::tool::screen::Screen;
 use crate::tool::watch::{self, read_moves, Chosen, Format, Options};
 use crate::tool::words::Words;
@@ -94,8 +94,8 @@ fn run(screen: &mut Screen, options: &Options) -> io::Result<u8> {
         Ok(loaded) => loaded,
         Err(outcome) => {
             return match options.format {
-                Format::Text => show(screen, file, &outcome, false),
-                Format::Json => show(screen, file, &outcome, true),
+                Format::Text => show(screen, file, &outcome, Form::Whole),
+                Format::Json => show(screen, file, &outcome, Form::Json),
                 Format::Svg => {
                     problem(screen, file, &outcome)?;
                     Ok(status(&outcome))
