@@ -1,12 +1,14 @@
 //! `channel-check watch`, run as a program.
 
 mod folder;
+mod json;
 
-use std::collections::{BTreeMap, BTreeSet};
+use std::collections::BTreeSet;
 use std::io::Write;
 use std::process::{Output, Stdio};
 
 use folder::{text, tool, Folder};
+use json::{json_lines, Json};
 use workbench::generate::Written;
 use workbench::reference::document::Form;
 use workbench::reference::print::print;
@@ -372,121 +374,6 @@ fn what_judge_alone_refuses_is_watched_with_a_note() {
     // Nothing is noted of a file that is accepted.
     let output = Folder::with("claimed", A).watch(&words, "");
     assert!(output.stderr.is_empty());
-}
-
-/// A value of JSON.
-#[derive(Clone, Debug, PartialEq)]
-enum Json {
-    Null,
-    Number(usize),
-    Text(String),
-    List(Vec<Json>),
-    Object(BTreeMap<String, Json>),
-}
-
-impl Json {
-    /// Reads one value that is all of a line.
-    fn read(line: &str) -> Json {
-        let mut rest = line;
-        let value = Json::value(&mut rest);
-        assert_eq!(rest, "", "after {value:?}");
-        value
-    }
-
-    fn take(rest: &mut &str, word: &str) -> bool {
-        let after = rest.strip_prefix(word);
-        *rest = after.unwrap_or(rest);
-        after.is_some()
-    }
-
-    fn value(rest: &mut &str) -> Json {
-        if Json::take(rest, "null") {
-            return Json::Null;
-        }
-        if Json::take(rest, "[") {
-            return Json::List(Json::items(rest, "]", Json::value));
-        }
-        if Json::take(rest, "{") {
-            let field = |rest: &mut &str| {
-                let key = Json::string(rest);
-                assert!(Json::take(rest, ": "), "{rest}");
-                (key, Json::value(rest))
-            };
-            let fields = Json::items(rest, "}", field);
-            let object: BTreeMap<_, _> = fields.iter().cloned().collect();
-            assert_eq!(object.len(), fields.len(), "a field twice");
-            return Json::Object(object);
-        }
-        if rest.starts_with('"') {
-            return Json::Text(Json::string(rest));
-        }
-        let digits = rest.len() - rest.trim_start_matches(|c: char| c.is_ascii_digit()).len();
-        let (number, after) = rest.split_at(digits);
-        *rest = after;
-        Json::Number(
-            number
-                .parse()
-                .unwrap_or_else(|_| panic!("no value: {rest}")),
-        )
-    }
-
-    fn items<T>(rest: &mut &str, end: &str, item: impl Fn(&mut &str) -> T) -> Vec<T> {
-        let mut items = vec![];
-        while !Json::take(rest, end) {
-            assert!(items.is_empty() || Json::take(rest, ", "), "{rest}");
-            items.push(item(rest));
-        }
-        items
-    }
-
-    fn string(rest: &mut &str) -> String {
-        assert!(Json::take(rest, "\""), "{rest}");
-        let mut text = String::new();
-        loop {
-            let mut characters = rest.chars();
-            match characters.next().expect("the end of a string") {
-                '"' => break,
-                '\\' => match characters.next() {
-                    Some(character @ ('"' | '\\')) => text.push(character),
-                    other => panic!("\\{other:?}"),
-                },
-                character => {
-                    assert!(!character.is_control());
-                    text.push(character);
-                }
-            }
-            *rest = characters.as_str();
-        }
-        assert!(Json::take(rest, "\""));
-        text
-    }
-
-    fn get(&self, key: &str) -> &Json {
-        match self {
-            Json::Object(fields) => fields
-                .get(key)
-                .unwrap_or_else(|| panic!("no {key}: {self:?}")),
-            _ => panic!("no object: {self:?}"),
-        }
-    }
-
-    fn text(&self, key: &str) -> &str {
-        match self.get(key) {
-            Json::Text(text) => text,
-            other => panic!("{key} is {other:?}"),
-        }
-    }
-
-    fn list(&self, key: &str) -> &[Json] {
-        match self.get(key) {
-            Json::List(items) => items,
-            other => panic!("{key} is {other:?}"),
-        }
-    }
-}
-
-fn json_lines(shown: &str) -> Vec<Json> {
-    shown.lines().map(Json::read).collect()
 }
 
 #[test]

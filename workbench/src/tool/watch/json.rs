@@ -1,27 +1,6 @@
 //! A run as JSON, an object to a line: one for the beginning, one for each move,
 //! one for each move undone, and one for the end.
-//!
-//! `event` is `begin`, `move`, `undone` or `end`. The first three have
-//!
-//! - `threads`: for each thread, by number: `thread`, its `row` and the row's
-//!   `text`; `can`: `own`, `send`, `receive`, `done`, `stuck` or `limit` (only the
-//!   limits keep it from moving); `channel` (null elsewhere than at a channel) and
-//!   `meets`, the threads that it can meet there, none if it waits; `words`, all
-//!   that in words;
-//! - `channels`: those at which threads stand: `row`, `instance`, and the threads
-//!   that are `sending` and `receiving`;
-//! - `moves`: the moves that are possible, as `--replay` takes them.
-//!
-//! Besides, `begin` has `file`; `move` and `undone` have `number` and `move`, the
-//! move made or undone; `move` has the rows it went `from` (the sender's first),
-//! the thread `born` or null, and the `message` or null: `sender`, `receiver`,
-//! `channel` (`row` and `instance`) and `value`, in words.
-//!
-//! `end` has `moves`, how many were made; `left`, how many are possible; the
-//! threads that are `done`, that are `waiting` with nobody to meet, that are
-//! `stuck`, and that only the limits keep back (`limited`); the `messages`;
-//! `replay`, the moves made; and `refused`: null, or the `move` that was refused
-//! with its `number` and `reason`.
+//! docs/JSON.md has the keys.
 
 use std::path::Path;
 
