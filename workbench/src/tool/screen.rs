@@ -1,6 +1,7 @@
 //! Where the tool speaks: results on standard output, problems on standard
 //! error, with colours where they are wanted.
 
+use std::ffi::OsString;
 use std::io::{self, BufWriter, IsTerminal, StdoutLock, Write};
 
 /// When text has colours.
@@ -21,23 +22,32 @@ impl Color {
         ("never", Color::Never),
     ];
 
+    /// Whether text has colours that goes to a terminal or elsewhere.
     fn on(self, terminal: bool) -> bool {
+        self.among(terminal, |name| std::env::var_os(name))
+    }
+
+    /// The same with variables of the surroundings.
+    fn among(self, terminal: bool, variable: impl Fn(&str) -> Option<OsString>) -> bool {
         match self {
             Color::Always => true,
             Color::Never => false,
-            Color::Auto => terminal && !no_color() && !dumb(),
+            Color::Auto => {
+                // The convention of no-color.org: set and not empty.
+                let no_color = variable("NO_COLOR").is_some_and(|value| !value.is_empty());
+                terminal && !no_color && !is_dumb(variable("TERM"))
+            }
         }
     }
 }
 
-/// The convention of no-color.org: set and not empty.
-fn no_color() -> bool {
-    std::env::var_os("NO_COLOR").is_some_and(|value| !value.is_empty())
+fn is_dumb(term: Option<OsString>) -> bool {
+    term.is_some_and(|term| term == "dumb")
 }
 
-/// A terminal that can do no more than print.
+/// Whether the terminal can do no more than print.
 pub fn dumb() -> bool {
-    std::env::var_os("TERM").is_some_and(|value| value == "dumb")
+    is_dumb(std::env::var_os("TERM"))
 }
 
 /// How the tool speaks, whatever the command.
@@ -105,4 +115,32 @@ impl Write for Screen {
 /// to tell it to.
 pub fn tell(text: &str) {
     let _ = io::stderr().lock().write_all(text.as_bytes());
+}
+
+#[cfg(test)]
+mod tests {
+    use super::*;
+
+    #[test]
+    fn colours_by_themselves_are_for_terminals_that_have_them() {
+        let among = |color: Color, terminal: bool, set: &[(&str, &str)]| {
+            color.among(terminal, |name| {
+                let found = set.iter().find(|(key, _)| *key == name);
+                found.map(|(_, value)| value.into())
+            })
+        };
+        let xterm = ("TERM", "xterm");
+        for (set, expected) in [
+            (&[] as &[(&str, &str)], true),
+            (&[xterm], true),
+            (&[xterm, ("NO_COLOR", "")], true),
+            (&[xterm, ("NO_COLOR", "1")], false),
+            (&[("TERM", "dumb")], false),
+        ] {
+            assert_eq!(among(Color::Auto, true, set), expected, "{set:?}");
+            assert!(!among(Color::Auto, false, set), "{set:?}");
+            assert!(among(Color::Always, false, set), "{set:?}");
+            assert!(!among(Color::Never, true, set), "{set:?}");
+        }
+    }
 }
