@@ -87,7 +87,7 @@ fn taken_apart(
 
 /// The options of a command; of all, if it is not known yet.
 fn options_of(asked: Option<&'static Verb>) -> impl Iterator<Item = &'static Opt> {
-    let verbs = VERBS.into_iter();
+    let verbs = VERBS.iter();
     let own = verbs.filter(move |verb| asked.is_none_or(|asked| asked.name == verb.name));
     own.flat_map(|verb| verb.options).chain(&COMMON)
 }

@@ -19,7 +19,9 @@ pub fn version() -> String {
 
 /// The list of commands, and the options that all have.
 pub fn list() -> String {
-    let verbs = VERBS.map(|verb| (verb.name.to_string(), verb.summary));
+    let verbs = VERBS
+        .iter()
+        .map(|verb| (verb.name.to_string(), verb.summary));
     format!(
         "usage: {NAME} COMMAND [OPTION..] WORD..\n\n\
          Checks the task files of a dispenser with the proved checker: whether the\n\
@@ -28,7 +30,7 @@ pub fn list() -> String {
          options of all commands, before or after the command:\n{}\n\
          `{NAME} help COMMAND` tells of one command. The file `-` is standard\n\
          input, and `--` ends the options.\n\n{STATUS}",
-        columns(&verbs),
+        columns(&verbs.collect::<Vec<_>>()),
         columns(&COMMON.iter().map(option).collect::<Vec<_>>())
     )
 }

@@ -81,7 +81,7 @@ impl Opt {
 }
 
 /// The commands, in the order in which they are listed.
-pub static VERBS: [&Verb; 6] = [
+pub static VERBS: &[&Verb] = &[
     &check::VERB,
     &infer::VERB,
     &preview::VERB,
@@ -110,7 +110,7 @@ pub static COMMON: [Opt; 4] = [
 
 /// The command of a name.
 pub fn verb(name: &str) -> Option<&'static Verb> {
-    VERBS.into_iter().find(|verb| verb.name == name)
+    VERBS.iter().copied().find(|verb| verb.name == name)
 }
 
 #[cfg(test)]
@@ -119,7 +119,7 @@ mod tests {
 
     /// The options that some command has.
     fn options() -> impl Iterator<Item = &'static Opt> {
-        let own = VERBS.into_iter().flat_map(|verb| verb.options);
+        let own = VERBS.iter().flat_map(|verb| verb.options);
         COMMON.iter().chain(own)
     }
 
