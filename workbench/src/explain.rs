@@ -1,11 +1,14 @@
 //! Why a file is refused, told by the reference: the place in the line, and the
 //! reason in sentences.
 
+mod edits;
 mod flow;
 mod shape;
 mod structure;
 mod walks;
+mod words;
 
+pub use edits::{apply, cure, Change, Edit};
 pub use flow::{demands, Demand};
 pub use walks::{breaking_walks, BreakingWalks};
 
@@ -28,8 +31,10 @@ pub struct Explanation {
     pub why: Vec<String>,
     /// Two walks that break the claim.
     pub walks: Option<[Vec<usize>; 2]>,
-    /// What may help.
-    pub hint: Option<&'static str>,
+    /// What may help, a sentence to a line.
+    pub help: Vec<String>,
+    /// Edits that mend the rule that fails, in the order of their lines.
+    pub edits: Vec<Edit>,
 }
 
 impl Explanation {
@@ -44,6 +49,14 @@ impl Explanation {
     /// One sentence and one place.
     fn at(mark: Range<usize>, why: String) -> Explanation {
         Explanation::new(Some(mark), vec![why])
+    }
+
+    /// The same with what may help.
+    fn with_help(self, help: impl IntoIterator<Item = String>) -> Explanation {
+        Explanation {
+            help: help.into_iter().collect(),
+            ..self
+        }
     }
 }
 
@@ -100,26 +113,7 @@ pub fn explain_replacement(
     Some(Explanation::new(None, why))
 }
 
-/// A list in words: `a`, `a or b`, `a, b or c`.
-fn one_of(items: &[String]) -> String {
-    match items {
-        [] => String::new(),
-        [item] => item.clone(),
-        [items @ .., last] => format!("{} or {last}", items.join(", ")),
-    }
-}
-
 /// That a row follows another in a set and is not greater.
 fn set_not_rising(one: usize, other: usize) -> String {
     format!("The rows in a set rise, but {other} follows {one}.")
-}
-
-/// A list of numbers in words, with an article: `row 3`, `rows 3, 4 and 5`.
-fn all_rows(rows: &[usize]) -> String {
-    let texts: Vec<String> = rows.iter().map(usize::to_string).collect();
-    match texts.as_slice() {
-        [] => "no row".to_string(),
-        [row] => format!("row {row}"),
-        [rows @ .., last] => format!("rows {} and {last}", rows.join(", ")),
-    }
 }

@@ -1,13 +1,22 @@
-//! Refusal 10: which member is missing from which set, and why it must be there.
+//! Refusal 10: which member is missing from which set, why it must be there, and
+//! what to write.
 
+use super::edits::{cure, Edit};
+use super::words::{all_of, all_rows, elided, ranges};
 use super::Explanation;
 use crate::reference::document::{Bind, Document, Form, Name, Set, Table};
-use crate::reference::flow::chan_rows_in;
+use crate::reference::flow::{chan_rows_in, rule_holds};
 use crate::reference::print::{print, table_text};
 use crate::text::lines;
 
-const HINT: &str =
-    "`channel-check infer FILE` prints the file with the smallest tables that keep the flow rules.";
+const INFER: &str =
+    "`channel-check infer FILE` prints the file with the smallest tables that keep all rules.";
+
+/// The widest part of a line that is shown in a sentence.
+const WIDEST: usize = 80;
+
+/// The most edits that are shown.
+const MOST_EDITS: usize = 6;
 
 fn in_words(table: Table) -> String {
     match table {
@@ -182,24 +191,23 @@ fn sync(document: &Document, bind: &Bind, event: Name) -> Vec<Demand> {
     demands
 }
 
-/// 10: the first demand that is not met, and what is missing.
+/// 10: the first demand that is not met, what is missing, and the edits that mend
+/// the row's rule.
 pub fn rule(document: &Document, line: usize) -> Option<Explanation> {
     let row = line.checked_sub(document.row_line(0))?;
     let mut demands = demands(document, row).into_iter();
     let demand = demands.find(|demand| !demand.missing(document).is_empty())?;
-    let missing = demand.missing(document);
-    let unit = missing.unit.then(|| "unit (`u`)".to_string());
-    let rows = missing.rows.iter().map(|row| format!("row {row}"));
-    let missing: Vec<String> = unit.into_iter().chain(rows).collect();
+    let missing = in_members(&demand.missing(document));
     let table = in_words(demand.table);
     let set = document.set(demand.table);
     let held = if set.is_empty() {
         "it has no line, so it is empty".to_string()
     } else {
-        format!("its line is `{}`", table_text(demand.table, set))
+        let text = table_text(demand.table, set);
+        format!("its line is `{}`", elided(&text, WIDEST))
     };
     let why = vec![
-        format!("Missing from {table}: {}; {held}.", missing.join(", ")),
+        format!("Missing from {table}: {missing}; {held}."),
         demand.reason,
     ];
     let text = print(document);
@@ -207,8 +215,52 @@ pub fn rule(document: &Document, line: usize) -> Option<Explanation> {
     // The form stands between the third `[` and the first `]`.
     let mut brackets = (0..text.len()).filter(|&at| text[at] == b'[');
     let end = text.iter().position(|&byte| byte == b']')? + 1;
+    let edits = cure(document, row);
+    let mut help = edits_in_words(row, &edits);
+    help.push(failing_in_words(document));
+    help.push(INFER.to_string());
     Some(Explanation {
-        hint: Some(HINT),
-        ..Explanation::new(Some(brackets.nth(2)?..end), why)
+        edits,
+        ..Explanation::new(Some(brackets.nth(2)?..end), why).with_help(help)
     })
+}
+
+/// The members of a set in words: unit, then the rows.
+fn in_members(set: &Set) -> String {
+    let unit = set.unit.then(|| "unit (`u`)".to_string());
+    let rows: Vec<usize> = set.rows.iter().copied().collect();
+    let rows = (!rows.is_empty()).then(|| all_rows(&rows));
+    let members: Vec<String> = unit.into_iter().chain(rows).collect();
+    all_of(&members)
+}
+
+/// What to write so that the rule of a row holds.
+fn edits_in_words(row: usize, edits: &[Edit]) -> Vec<String> {
+    let then = format!("the flow rule of row {row} then holds");
+    if let [edit] = edits {
+        return vec![format!("To mend this row, {edit}: {then}.")];
+    }
+    let mut text = vec![format!(
+        "To mend this row, make these {} edits, whose lines count in the text as it is; {then}:",
+        edits.len()
+    )];
+    let shown = edits.iter().take(MOST_EDITS);
+    text.extend(shown.map(|edit| format!("    {edit}")));
+    if let Some(more) = edits.len().checked_sub(MOST_EDITS).filter(|more| *more > 0) {
+        text.push(format!("    and {more} more, which --json gives"));
+    }
+    text
+}
+
+/// How many rows have a rule that fails, and which.
+fn failing_in_words(document: &Document) -> String {
+    let rows = 0..document.rows.len();
+    let failing: Vec<usize> = rows.filter(|&row| !rule_holds(document, row)).collect();
+    match failing.len() {
+        1 => "No other row's rule fails.".to_string(),
+        count => format!(
+            "The rules of {count} rows fail: {}.",
+            elided(&all_of(&ranges(failing)), WIDEST)
+        ),
+    }
 }

@@ -2,7 +2,8 @@
 
 use std::ops::Range;
 
-use super::{all_rows, set_not_rising, Explanation};
+use super::words::all_rows;
+use super::{set_not_rising, Explanation};
 use crate::reference::document::{Document, Form, Listed, Name, Part, Row, Set};
 use crate::reference::print::print;
 use crate::reference::structure::{bound_names, scopes};

@@ -127,6 +127,23 @@ fn nested(document: &Document, rows: &BTreeSet<usize>) -> Option<[Vec<usize>; 2]
     pairs.into_iter().min_by_key(|[_, longer]| longer.len())
 }
 
+/// Of a longer part of a walk so many rows are shown at its beginning and end.
+const SHOWN: usize = 5;
+
+const PICTURE: &str =
+    "`channel-check picture FILE > walks.svg` draws the rows with the two walks in two colours.";
+
+/// A part of a walk, a row to a line; of a long one the beginning and the end.
+fn told(part: &[usize], row_text: impl Fn(&usize) -> String) -> Vec<String> {
+    let Some(left_out) = part.len().checked_sub(2 * SHOWN).filter(|&more| more > 2) else {
+        return part.iter().map(row_text).collect();
+    };
+    let mut lines: Vec<String> = part[..SHOWN].iter().map(&row_text).collect();
+    lines.push(format!("    .. {left_out} rows more .."));
+    lines.extend(part[part.len() - SHOWN..].iter().map(&row_text));
+    lines
+}
+
 /// 11: two walks that break the claim, row by row.
 pub fn claim(document: &Document, line: usize) -> Option<Explanation> {
     let index = line.checked_sub(document.claim_line(0))?;
@@ -163,23 +180,23 @@ pub fn claim(document: &Document, line: usize) -> Option<Explanation> {
         ),
         "Both walks begin:".to_string(),
     ];
-    why.extend(one[..shared].iter().map(row_text));
+    why.extend(told(&one[..shared], row_text));
     if begins(one, other) {
         why.push(format!(
             "There the first walk ends, at row {end}. The second goes on:"
         ));
-        why.extend(other[shared..].iter().map(row_text));
+        why.extend(told(&other[shared..], row_text));
     } else {
         let spawn = one[shared - 1];
         why.push(format!("Row {spawn} spawns. The new thread goes on:"));
-        why.extend(one[shared..].iter().map(row_text));
+        why.extend(told(&one[shared..], row_text));
         why.push("The thread that spawned it goes on:".to_string());
-        why.extend(other[shared..].iter().map(row_text));
+        why.extend(told(&other[shared..], row_text));
     }
     let claim_text = lines[line - 1].trim_ascii_end();
     let mark = claim_text.len() - 1 - word.len()..claim_text.len() - 1;
     Some(Explanation {
         walks: Some(breaking.walks),
-        ..Explanation::new(Some(mark), why)
+        ..Explanation::new(Some(mark), why).with_help([PICTURE.to_string()])
     })
 }

@@ -77,9 +77,8 @@ pub fn outcome(outcome: &Outcome) -> Vec<Field> {
                     let walk = |walk: &Vec<usize>| array(walk.iter().map(usize::to_string));
                     fields.push(("walks", array(walks.iter().map(walk))));
                 }
-                if let Some(hint) = explanation.hint {
-                    fields.push(("hint", string(hint)));
-                }
+                let help = explanation.help.iter();
+                fields.push(("help", array(help.map(|sentence| string(sentence.trim())))));
             }
             fields
         }

@@ -169,8 +169,8 @@ fn why(at: usize, line: &[u8], explanation: Option<&Explanation>, colours: bool)
             for sentence in &explanation.why {
                 text += &format!("  {sentence}\n");
             }
-            if let Some(hint) = explanation.hint {
-                text += &format!("  {hint}\n");
+            for sentence in &explanation.help {
+                text += &format!("  {sentence}\n");
             }
         }
         None => text += "  The reference answers otherwise, so there is no explanation.\n",
