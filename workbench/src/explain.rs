@@ -11,6 +11,7 @@ mod words;
 pub use edits::{apply, cure, Change, Edit};
 pub use flow::{demands, Demand};
 pub use walks::{breaking_walks, BreakingWalks};
+pub use words::all_rows;
 
 use std::ops::Range;
 

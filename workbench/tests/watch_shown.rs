@@ -2,12 +2,14 @@
 
 mod folder;
 mod json;
+mod svg;
 mod watched;
 
 use std::collections::BTreeSet;
 
 use folder::{text, Folder};
 use json::{json_lines, Json};
+use svg::{elements, of_class, stands_alone};
 use watched::{printed, A_TO_THE_END};
 use workbench::generate::Written;
 use workbench::reference::print::print;
@@ -79,39 +81,6 @@ fn json_of_what_is_undone_refused_and_stuck() {
     assert!(!end.list("waiting").is_empty() && !end.list("done").is_empty());
 }
 
-/// The elements of a picture by their names, with the attributes of each. Fails
-/// unless every element that begins ends, inside that in which it began.
-fn elements(svg: &str) -> Vec<(String, String)> {
-    let (mut open, mut found) = (vec![], vec![]);
-    for part in svg.split('<').skip(1) {
-        let (tag, content) = part.split_once('>').expect("the end of a tag");
-        assert!(!content.contains('>'), "{content}");
-        for entity in content.split('&').skip(1) {
-            let name = entity.split_once(';').expect("the end of an entity").0;
-            assert!(["amp", "lt", "gt", "quot", "#39"].contains(&name), "{name}");
-        }
-        if let Some(name) = tag.strip_prefix('/') {
-            assert_eq!(open.pop().as_deref(), Some(name));
-            continue;
-        }
-        let inner = tag.strip_suffix('/');
-        let (name, attributes) = inner.unwrap_or(tag).split_once(' ').unwrap_or((tag, ""));
-        assert_eq!(attributes.matches('"').count() % 2, 0, "{attributes}");
-        found.push((name.to_string(), attributes.to_string()));
-        if inner.is_none() {
-            open.push(name.to_string());
-        }
-    }
-    assert!(open.is_empty(), "{open:?}");
-    found
-}
-
-fn of_class(elements: &[(String, String)], class: &str) -> usize {
-    let class = format!("class=\"{class}\"");
-    let has = |(_, attributes): &&(String, String)| attributes.contains(&class);
-    elements.iter().filter(has).count()
-}
-
 #[test]
 fn a_picture_of_listing_a() {
     let words = ["--svg", "--replay", A_TO_THE_END];
@@ -122,18 +91,9 @@ fn a_picture_of_listing_a() {
     assert_eq!(counts, [2, 1, 1, 4]);
     assert!(svg.contains(">row 1 #1</text>"), "{svg}");
     assert!(svg.contains("move 6: thread 0 to thread 1 on channel row 1 #1: unit</title>"));
-    // Self-contained.
-    for word in [
-        "<script",
-        "href",
-        "@import",
-        "url(http",
-        "<image",
-        "font-face",
-    ] {
-        assert!(!svg.contains(word), "{word}");
-    }
-    assert_eq!(svg.matches("http").count(), 1, "the name of the language");
+    stands_alone(&svg);
+    let title = "f: 2 threads, 6 moves, 1 message</title>";
+    assert!(svg.contains(title), "{svg}");
 }
 
 #[test]

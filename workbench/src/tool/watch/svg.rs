@@ -7,6 +7,7 @@
 use super::going::{Going, Made, Message};
 use super::text;
 use crate::checker::Move;
+use crate::tool::svg::{counted, escaped, Frame};
 
 /// The distance of two lanes.
 const LANE: usize = 110;
@@ -34,25 +35,6 @@ text{font-family:sans-serif;font-size:11px;fill:#222}\
 .birth{stroke:#2a7;stroke-width:2;fill:none}\
 .message{stroke:#36c;stroke-width:1.5}\
 .dot{fill:#999}";
-
-/// Text as it may stand in the picture.
-fn escaped(text: &str) -> String {
-    let mut escaped = String::new();
-    for character in text.chars() {
-        match character {
-            '&' => escaped += "&amp;",
-            '<' => escaped += "&lt;",
-            '>' => escaped += "&gt;",
-            '"' => escaped += "&quot;",
-            '\'' => escaped += "&#39;",
-            // XML has no place for these.
-            '\u{fffe}' | '\u{ffff}' => escaped.push('\u{fffd}'),
-            _ if character.is_control() => escaped.push('\u{fffd}'),
-            _ => escaped.push(character),
-        }
-    }
-    escaped
-}
 
 /// Where the lane of a thread stands.
 fn across(thread: usize) -> usize {
@@ -97,26 +79,28 @@ pub fn picture(file: &str, going: &mut Going) -> String {
     let end = down + DOT;
     let (width, height) = (across(threads - 1) + MARGIN, end + BOTTOM);
     let (moves, messages) = (going.made.len(), going.messages().count());
-    let file = escaped(file);
-    let mut svg = format!(
-        "<svg xmlns=\"http://www.w3.org/2000/svg\" width=\"{width}\" height=\"{height}\" \
-         viewBox=\"0 0 {width} {height}\">\n\
-         <title>{file}: {threads} threads, {moves} moves, {messages} messages</title>\n\
-         <style>{STYLE}</style>\n\
-         <defs><marker id=\"head\" markerWidth=\"9\" markerHeight=\"8\" refX=\"9\" refY=\"4\" \
+    let title = format!(
+        "{file}: {}, {}, {}",
+        counted(threads, "thread"),
+        counted(moves, "move"),
+        counted(messages, "message")
+    );
+    let mut drawn = format!(
+        "<defs><marker id=\"head\" markerWidth=\"9\" markerHeight=\"8\" refX=\"9\" refY=\"4\" \
          orient=\"auto\"><path d=\"M0,0 L9,4 L0,8 z\" fill=\"#36c\"/></marker></defs>\n\
-         <rect width=\"{width}\" height=\"{height}\" fill=\"#fff\"/>\n\
-         <text class=\"title\" x=\"10\" y=\"20\">{file}</text>\n"
+         <text class=\"title\" x=\"10\" y=\"20\">{}</text>\n",
+        escaped(file)
     );
     for (thread, top) in lanes.into_iter().enumerate() {
         let x = across(thread);
-        svg += &format!("<line class=\"lane\" x1=\"{x}\" y1=\"{top}\" x2=\"{x}\" y2=\"{end}\"/>\n");
+        drawn +=
+            &format!("<line class=\"lane\" x1=\"{x}\" y1=\"{top}\" x2=\"{x}\" y2=\"{end}\"/>\n");
     }
-    svg += &events;
+    drawn += &events;
     for (thread, seen) in view.threads.iter().enumerate() {
         let (x, y) = (across(thread), end + 16);
         let words = escaped(&text::can(&seen.can));
-        svg += &format!(
+        drawn += &format!(
             "<g><title>thread {thread}: {words}</title>\
              <text class=\"left\" x=\"{x}\" y=\"{y}\">row {}</text>\
              <text class=\"left\" x=\"{x}\" y=\"{}\">{}</text></g>\n",
@@ -125,7 +109,15 @@ pub fn picture(file: &str, going: &mut Going) -> String {
             text::short(&seen.can)
         );
     }
-    svg + "</svg>\n"
+    Frame {
+        title: &title,
+        description: "A run, time running down: a lane for each thread, an arrow for each \
+                      message, a dot for each move of a thread alone.",
+        width,
+        height,
+        style: STYLE,
+    }
+    .around(&drawn)
 }
 
 /// What a move draws, from some height down.
@@ -176,15 +168,4 @@ fn arrow(number: usize, message: &Message, y: usize) -> String {
         escaped(&told),
         y - 5
     )
-}
-
-#[cfg(test)]
-mod tests {
-    use super::*;
-
-    #[test]
-    fn text_is_escaped() {
-        assert_eq!(escaped("a<b>&\"'"), "a&lt;b&gt;&amp;&quot;&#39;");
-        assert_eq!(escaped("a\u{1}b\u{ffff}"), "a\u{fffd}b\u{fffd}");
-    }
 }
