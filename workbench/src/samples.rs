@@ -1,4 +1,5 @@
-//! Programs that tests and benchmarks share, each a file of `samples/`.
+//! Programs that tests and benchmarks share, each a file of `samples/`, whose README
+//! says what every file there shows.
 
 /// Standard input A of document 01.
 pub const A: &str = include_str!("../../examples/a.txt");
@@ -31,13 +32,13 @@ pub const BRANCH_RESULT: &str = include_str!("../samples/branch_result.txt");
 pub const TWO_CHANNELS: &str = include_str!("../samples/two_channels.txt");
 /// A server that takes reply channels and answers on them, and two clients. It
 /// has no tables.
-pub const SERVER: &str = include_str!("../samples/server.txt");
+pub const SERVER: &str = include_str!("../samples/without_tables/server.txt");
 /// Two loops, one in each of two threads: left and right values go one way, and
 /// an answer to each left value the other way. It has no tables.
-pub const RELAY: &str = include_str!("../samples/relay.txt");
+pub const RELAY: &str = include_str!("../samples/without_tables/relay.txt");
 /// A function that unpacks a left value and gives back what is in it. It has no
 /// tables.
-pub const UNPACKING: &str = include_str!("../samples/unpacking.txt");
+pub const UNPACKING: &str = include_str!("../samples/without_tables/unpacking.txt");
 
 /// Listing A with one line replaced; an empty new line takes it out.
 pub fn a_with(old: &str, new: &str) -> String {
