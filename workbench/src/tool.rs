@@ -9,6 +9,7 @@ mod nearest;
 mod outcome;
 mod outcomes;
 mod paths;
+pub mod pages;
 pub mod picture;
 mod preview;
 mod progress;
