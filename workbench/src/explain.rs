@@ -11,7 +11,7 @@ mod words;
 pub use edits::{apply, cure, Change, Edit};
 pub use flow::{demands, Demand};
 pub use walks::{breaking_walks, BreakingWalks};
-pub use words::all_rows;
+pub use words::{all_rows, one_of};
 
 use std::ops::Range;
 

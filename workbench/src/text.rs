@@ -47,6 +47,31 @@ pub fn spelled_place(line: &[u8], place: &Range<usize>) -> Range<usize> {
     start..before(place.end).max(start + 1)
 }
 
+/// How many letters must be put in, left out, exchanged or swapped with their
+/// neighbour to make one word of the other.
+pub fn distance(one: &str, other: &str) -> usize {
+    let [one, other] = [one, other].map(|word| word.chars().collect::<Vec<char>>());
+    let mut table = vec![vec![0; other.len() + 1]; one.len() + 1];
+    for i in 0..=one.len() {
+        for j in 0..=other.len() {
+            table[i][j] = match (i, j) {
+                (0, _) | (_, 0) => i + j,
+                _ => {
+                    let exchanged = usize::from(one[i - 1] != other[j - 1]);
+                    let mut least = (table[i - 1][j] + 1)
+                        .min(table[i][j - 1] + 1)
+                        .min(table[i - 1][j - 1] + exchanged);
+                    if i > 1 && j > 1 && one[i - 1] == other[j - 2] && one[i - 2] == other[j - 1] {
+                        least = least.min(table[i - 2][j - 2] + 1);
+                    }
+                    least
+                }
+            };
+        }
+    }
+    table[one.len()][other.len()]
+}
+
 #[cfg(test)]
 mod tests {
     use super::*;
@@ -60,5 +85,21 @@ mod tests {
         }
         assert_eq!(spelled_place(b"abc", &(3..4)), 3..4);
         assert_eq!(spelled_place(b"abc", &(1..1)), 1..2);
+    }
+
+    #[test]
+    fn distances_count_slips() {
+        for (one, other, slips) in [
+            ("", "", 0),
+            ("recv", "", 4),
+            ("sync", "synk", 1),
+            ("snyc", "sync", 1),
+            ("oneshot", "one-shot", 1),
+            ("claims", "claim", 1),
+            ("left", "right", 4),
+        ] {
+            assert_eq!(distance(one, other), slips, "{one} {other}");
+            assert_eq!(distance(other, one), slips, "{other} {one}");
+        }
     }
 }

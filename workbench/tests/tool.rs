@@ -67,7 +67,9 @@ f:6:16: refused 10: the tables break the flow rule of this row
   Missing from the set of name 4: unit (`u`); it has no line, so it is empty.
   This sync takes name 3, which may be recv row 3, whose channel, name 1, may be chan row 1; \
 so the set of messages of channel row 1 must lie in the set of name 4.
-  `channel-check infer FILE` prints the file with the smallest tables that keep the flow rules.
+  To mend this row, insert `[flow 4 [u]]` after line 14: the flow rule of row 4 then holds.
+  No other row's rule fails.
+  `channel-check infer FILE` prints the file with the smallest tables that keep all rules.
 "
     );
 }
@@ -90,6 +92,10 @@ fan-out allows no two threads that do so.
       [row 3 [bind 4 [sync 1] 4]]
   The thread that spawned it goes on:
       [row 5 [bind 5 [sync 1] 6]]
+  `channel-check picture FILE > walks.svg` draws the rows with the two walks in two colours.
+  channel name  claim       one-shot    one-to-one  fan-out     fan-in      one-sync
+  row 0   0     fan-out     no          no          no          yes         no
+  Line 15: fan-out does not hold for row 0; fan-in or many would hold.
 "
     );
     let nested = refused("nested", format!("{LOOP}[claim 0 one-shot]\n"));
@@ -117,6 +123,11 @@ one-sync allows at most one receive.
       [row 6 [bind 5 [sync 4] 7]]
   There the first walk ends, at row 6. The second goes on:
       [row 7 [bind 6 [sync 4] 8]]
+  `channel-check picture FILE > walks.svg` draws the rows with the two walks in two colours.
+  channel name  claim       one-shot    one-to-one  fan-out     fan-in      one-sync
+  row 0   0     one-sync    yes         yes         yes         yes         no
+  Line 19: one-sync does not hold for row 0; one-shot, one-to-one, fan-out, fan-in or many \
+would hold.
 "
     );
     for (file, why) in [
@@ -305,20 +316,20 @@ fn json_for_machines() {
     );
     let begin = r#"{"file": "r", "accepted": false, "number": 11, "line": 15, "reason": "the claim does not hold", "column": 10, "text": "[claim 0 fan-out]", "columns": [10, 16], "why": ["By the tables"#;
     assert!(lines[1].starts_with(begin), "{}", lines[1]);
-    assert!(lines[1].ends_with(r#""walks": [[0, 1, 2, 3], [0, 1, 2, 5]]}"#));
+    assert!(lines[1].contains(r#""walks": [[0, 1, 2, 3], [0, 1, 2, 5]], "#));
     assert_eq!(
         lines[2],
         r#"{"file": "no-such", "error": "there is no such file"}"#
     );
     assert!(lines[3].contains(r#""text": "[claim 0 one-sync]", "columns": [10, 17], "#));
-    assert!(lines[3].ends_with(r#""walks": [[0, 1, 5, 6], [0, 1, 5, 6, 7]]}"#));
+    assert!(lines[3].contains(r#""walks": [[0, 1, 5, 6], [0, 1, 5, 6, 7]], "#));
     assert!(lines[4].ends_with(
         r#""claim": "many", "verdict": {"one-shot": true, "one-to-one": true, "fan-out": true, "fan-in": true, "one-sync": false}}]}"#
     ));
     let rule = folder
         .put("f", a_with("[flow 4 [u]]", ""))
         .run(&["check", "--json", "f"]);
-    assert!(text(&rule.stdout).contains(r#", "hint": "`channel-check infer FILE` prints"#));
+    assert!(text(&rule.stdout).contains(r#", "`channel-check infer FILE` prints"#));
 }
 
 #[test]

@@ -53,7 +53,9 @@ archive/a/z.txt:6:16: refused 10: the tables break the flow rule of this row
   Missing from the set of name 4: unit (`u`); it has no line, so it is empty.
   This sync takes name 3, which may be recv row 3, whose channel, name 1, may be chan row 1; \
 so the set of messages of channel row 1 must lie in the set of name 4.
-  `channel-check infer FILE` prints the file with the smallest tables that keep the flow rules.
+  To mend this row, insert `[flow 4 [u]]` after line 14: the flow rule of row 4 then holds.
+  No other row's rule fails.
+  `channel-check infer FILE` prints the file with the smallest tables that keep all rules.
 archive/a.TXT: accepted, 1 claim holds
 archive/b.txt: accepted, 1 claim holds
 archive/b.txt: accepted, 1 claim holds

@@ -59,7 +59,9 @@ f with this set: refused 10 at line 6: the tables break the flow rule of this ro
   Missing from the set of name 4: unit (`u`); its line is `[flow 4 [1 3]]`.
   This sync takes name 3, which may be recv row 3, whose channel, name 0, may be chan row 0; \
 so the set of messages of channel row 0 must lie in the set of name 4.
-  `channel-check infer FILE` prints the file with the smallest tables that keep the flow rules.
+  To mend this row, put `[flow 4 [u 1 3]]` in place of line 20: the flow rule of row 4 then holds.
+  No other row's rule fails.
+  `channel-check infer FILE` prints the file with the smallest tables that keep all rules.
   Lines count in the text with this set, which `channel-check replace` prints.
 "
     );

@@ -3,9 +3,10 @@
 use std::path::Path;
 
 use super::names::shown;
-use super::outcome::{Channel, Outcome};
+use super::outcome::{Channel, Claimed, Outcome};
 use super::report;
 use crate::checker::Refusal;
+use crate::explain::{Change, Edit};
 use crate::reference::document::Word;
 use crate::text::{spelled, spelled_place};
 
@@ -58,6 +59,7 @@ pub fn outcome(outcome: &Outcome) -> Vec<Field> {
             refusal,
             line,
             explanation,
+            channels,
         } => {
             let mut fields = answer(Err(*refusal));
             if refusal.line > 0 {
@@ -77,8 +79,17 @@ pub fn outcome(outcome: &Outcome) -> Vec<Field> {
                     let walk = |walk: &Vec<usize>| array(walk.iter().map(usize::to_string));
                     fields.push(("walks", array(walks.iter().map(walk))));
                 }
-                let help = explanation.help.iter();
-                fields.push(("help", array(help.map(|sentence| string(sentence.trim())))));
+                if !explanation.help.is_empty() {
+                    let help = explanation.help.iter();
+                    fields.push(("help", array(help.map(|sentence| string(sentence.trim())))));
+                }
+                if !explanation.edits.is_empty() {
+                    fields.push(("edits", array(explanation.edits.iter().map(edit))));
+                }
+            }
+            if !channels.is_empty() {
+                fields.push(("channels", array(channels.iter().map(self::channel))));
+                fields.push(("failing", array(channels.iter().filter_map(failing))));
             }
             fields
         }
@@ -98,9 +109,35 @@ fn channel(channel: &Channel) -> String {
         ),
         (
             "claim",
-            channel.claim.map_or_else(null, |word| string(word.text())),
+            channel
+                .claim
+                .map_or_else(null, |claim| string(claim.word.text())),
         ),
         ("verdict", object(verdict.collect())),
+    ])
+}
+
+/// A claim that fails, with the words that would hold.
+fn failing(channel: &Channel) -> Option<String> {
+    let Claimed { word, line } = channel.failing()?;
+    let holding = channel.holding().into_iter();
+    Some(object(vec![
+        ("line", line.to_string()),
+        ("row", channel.row.to_string()),
+        ("claim", string(word.text())),
+        ("would_hold", array(holding.map(|word| string(word.text())))),
+    ]))
+}
+
+fn edit(edit: &Edit) -> String {
+    let change = match edit.change {
+        Change::InsertAfter => "insert-after",
+        Change::Replace => "replace",
+    };
+    object(vec![
+        ("change", string(change)),
+        ("line", edit.line.to_string()),
+        ("text", string(&edit.text)),
     ])
 }
 

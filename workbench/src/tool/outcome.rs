@@ -11,14 +11,38 @@ use crate::layout::decode;
 use crate::reference::document::{Document, Name, Word, MAX_FILE_BYTES};
 use crate::reference::print::print;
 use crate::reference::refusal;
+use crate::reference::verdict::word_holds;
 use crate::text::lines;
 
-/// A channel of an accepted file.
+/// A channel of a file whose tables keep the flow rules.
 pub struct Channel {
     pub row: usize,
     pub name: Option<Name>,
-    pub claim: Option<Word>,
+    pub claim: Option<Claimed>,
     pub verdict: Verdict,
+}
+
+/// A claim on a channel: its word and its line.
+#[derive(Clone, Copy)]
+pub struct Claimed {
+    pub word: Word,
+    pub line: usize,
+}
+
+impl Channel {
+    /// The claim, if it fails.
+    pub fn failing(&self) -> Option<Claimed> {
+        self.claim
+            .filter(|claim| !word_holds(claim.word, self.verdict))
+    }
+
+    /// The words that hold.
+    pub fn holding(&self) -> Vec<Word> {
+        let words = Word::ALL.into_iter();
+        words
+            .filter(|word| word_holds(*word, self.verdict))
+            .collect()
+    }
 }
 
 /// What becomes of one file.
@@ -33,6 +57,8 @@ pub enum Outcome {
         line: Vec<u8>,
         /// None if the reference answers otherwise.
         explanation: Option<Box<Explanation>>,
+        /// All channels, where it is a claim that fails; none else.
+        channels: Vec<Channel>,
     },
     Unreadable(String),
 }
@@ -103,6 +129,7 @@ pub fn refused_at(text: &[u8], refusal: Refusal, explanation: Option<Explanation
         refusal,
         line: line.strip_suffix(b"\n").unwrap_or(line).to_vec(),
         explanation: explanation.map(Box::new),
+        channels: vec![],
     }
 }
 
@@ -115,13 +142,18 @@ pub fn document(store: &Store) -> Document {
 /// text, which may be too long for a file.
 pub fn judged(store: &Store, counts: Counts, answer: Result<usize, Refusal>) -> Outcome {
     let document = document(store);
-    let channels = answer.and_then(|claims| {
-        let channels = channels(store, counts.rows, &document)?;
+    let all = || channels(store, counts.rows, &document);
+    let accepted = answer.and_then(|claims| {
+        let channels = all()?;
         Ok(Outcome::Accepted { claims, channels })
     });
-    channels.unwrap_or_else(|refusal| {
+    accepted.unwrap_or_else(|refusal| {
         let explanation = explain_judged(&document, told(refusal));
-        refused_at(&print(&document), refusal, explanation)
+        let mut outcome = refused_at(&print(&document), refusal, explanation);
+        if let (Outcome::Refused { channels, .. }, Reason::Claim) = (&mut outcome, refusal.reason) {
+            *channels = all().unwrap_or_default();
+        }
+        outcome
     })
 }
 
@@ -135,11 +167,15 @@ fn channels(store: &Store, rows: usize, document: &Document) -> Result<Vec<Chann
             Err(refusal) if refusal.reason == Reason::NotAChannel => continue,
             Err(refusal) => return Err(refusal),
         };
-        let claim = document.claims.iter().find(|claim| claim.channel == row);
+        let mut claims = document.claims.iter().enumerate();
+        let claim = claims.find(|(_, claim)| claim.channel == row);
         channels.push(Channel {
             row,
             name: document.bind(row).map(|bind| bind.name),
-            claim: claim.map(|claim| claim.word),
+            claim: claim.map(|(index, claim)| Claimed {
+                word: claim.word,
+                line: document.claim_line(index),
+            }),
             verdict,
         });
     }

@@ -2,9 +2,9 @@
 
 use std::ops::Range;
 
-use super::outcome::{Channel, Outcome};
+use super::outcome::{Channel, Claimed, Outcome};
 use crate::checker::{Reason, Refusal};
-use crate::explain::Explanation;
+use crate::explain::{one_of, Explanation};
 use crate::reference::document::Word;
 use crate::text::{spelled, spelled_place};
 
@@ -42,6 +42,7 @@ pub fn text(file: &str, outcome: &Outcome, colours: bool) -> String {
             refusal,
             line,
             explanation,
+            channels,
         } => {
             let place = match refusal.line {
                 0 => file.to_string(),
@@ -51,7 +52,8 @@ pub fn text(file: &str, outcome: &Outcome, colours: bool) -> String {
             let Refusal { reason, .. } = refusal;
             let refused = refused(*reason, colours);
             let head = format!("{place}: {refused}: {reason}\n");
-            head + &why(refusal.line, line, explanation.as_deref(), colours)
+            let why = why(refusal.line, line, explanation.as_deref(), colours);
+            head + &why + &failing(channels, colours)
         }
         Outcome::Unreadable(message) => {
             let file = styled(file, Style::Strong, colours);
@@ -111,9 +113,11 @@ pub fn supposed(of: &str, outcome: &Outcome, colours: bool) -> String {
             refusal,
             line,
             explanation,
+            channels,
         } => {
             let answer = answer(of, Err(*refusal), colours);
-            answer + &why(refusal.line, line, explanation.as_deref(), colours)
+            let why = why(refusal.line, line, explanation.as_deref(), colours);
+            answer + &why + &failing(channels, colours)
         }
         _ => text(of, outcome, colours),
     }
@@ -134,7 +138,7 @@ fn table(channels: &[Channel], colours: bool) -> String {
     for channel in channels {
         let row = format!("row {}", channel.row);
         let name = channel.name.map_or(String::new(), |name| name.to_string());
-        let claim = channel.claim.map_or("-", Word::text);
+        let claim = channel.claim.map_or("-", |claim| claim.word.text());
         text += &format!("  {row:<8}{name:<6}{claim:<12}");
         for (index, holds) in channel.verdict.into_iter().enumerate() {
             let (word, style) = match holds {
@@ -146,6 +150,28 @@ fn table(channels: &[Channel], colours: bool) -> String {
             text += &format!("{}{padding}", styled(word, style, colours));
         }
         text.push('\n');
+    }
+    text
+}
+
+/// After a claim that fails: the channels, every claim that fails, and the words
+/// that would hold.
+fn failing(channels: &[Channel], colours: bool) -> String {
+    if channels.is_empty() {
+        return String::new();
+    }
+    let mut text = table(channels, colours);
+    for channel in channels {
+        if let Some(Claimed { word, line }) = channel.failing() {
+            let holding = channel.holding().into_iter();
+            let holding: Vec<String> = holding.map(|word| word.text().to_string()).collect();
+            text += &format!(
+                "  Line {line}: {} does not hold for row {}; {} would hold.\n",
+                word.text(),
+                channel.row,
+                one_of(&holding)
+            );
+        }
     }
     text
 }

@@ -4,8 +4,10 @@
 //! one, write that file and name its entry in `VERBS`.
 
 mod check;
+mod explain;
 mod help;
 mod infer;
+mod picture;
 mod preview;
 mod replace;
 mod watch;
@@ -87,6 +89,8 @@ pub static VERBS: &[&Verb] = &[
     &preview::VERB,
     &replace::VERB,
     &watch::VERB,
+    &picture::VERB,
+    &explain::VERB,
     &help::VERB,
 ];
 

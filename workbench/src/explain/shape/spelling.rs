@@ -1,6 +1,8 @@
 //! Words that are likely to be meant: the nearest by edit distance, and words that
 //! other languages use.
 
+use crate::text::distance;
+
 /// Words that are often written for others.
 const ALIASES: [(&str, &str); 25] = [
     ("any", "many"),
@@ -58,45 +60,9 @@ fn allowed(word: &str) -> usize {
     1 + word.len() / 4
 }
 
-/// The least number of letters put in, left out, changed, or swapped with the next.
-fn distance(one: &str, other: &str) -> usize {
-    let (one, other) = (one.as_bytes(), other.as_bytes());
-    let mut before: Vec<usize> = vec![];
-    let mut last: Vec<usize> = (0..=other.len()).collect();
-    for (i, a) in one.iter().enumerate() {
-        let mut row = vec![i + 1];
-        for (j, b) in other.iter().enumerate() {
-            let changed = last[j] + usize::from(a != b);
-            let mut least = changed.min(last[j + 1] + 1).min(row[j] + 1);
-            if i > 0 && j > 0 && *a == other[j - 1] && one[i - 1] == *b {
-                least = least.min(before[j - 1] + 1);
-            }
-            row.push(least);
-        }
-        before = std::mem::replace(&mut last, row);
-    }
-    last[other.len()]
-}
-
 #[cfg(test)]
 mod tests {
     use super::*;
-
-    #[test]
-    fn distances_count_slips() {
-        for (one, other, slips) in [
-            ("", "", 0),
-            ("recv", "", 4),
-            ("sync", "synk", 1),
-            ("snyc", "sync", 1),
-            ("oneshot", "one-shot", 1),
-            ("claims", "claim", 1),
-            ("left", "right", 4),
-        ] {
-            assert_eq!(distance(one, other), slips, "{one} {other}");
-            assert_eq!(distance(other, one), slips, "{other} {one}");
-        }
-    }
 
     #[test]
     fn only_near_words_are_meant() {
