@@ -184,7 +184,7 @@ fn columns_index_the_text_that_is_given() {
     // The line, the part of its text at fault, and the byte of the file's line.
     let cases: [(&[u8], &str, usize); 7] = [
         (b"[flow 0 [1 u]]", "u", 12),
-        ("[flow 0 [\u{f6}]]".as_bytes(), "\\xc3", 10),
+        ("[flow 0 [\u{f6}]]".as_bytes(), "\\xc3\\xb6", 10),
         (b"[flow 0 [\t]]", "\\t", 10),
         (b"[flow 0 [\"]]", "\"", 10),
         (b"[flow 0 [\\]]", "\\\\", 10),

@@ -97,7 +97,11 @@ fn no_header(file: &[u8], line: &[u8]) -> Explanation {
     }
     let told = misspelled(file, line, &faults);
     let why = [vec![must], told.why].concat();
-    Explanation { why, ..told }
+    // The place is where the bytes begin to differ.
+    let same = line.iter().zip(header.bytes());
+    let same = same.take_while(|(a, b)| **a == *b).count();
+    let mark = Some(same..line.len().max(same + 1));
+    Explanation { mark, why, ..told }
 }
 
 /// A line that would do, but that a line of a later kind stands before.
