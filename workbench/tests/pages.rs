@@ -42,7 +42,7 @@ fn each_refusal_has_a_page_and_a_line_in_the_list() {
         assert!(page.contains("\nThe cure:"), "{page}");
         assert!(list.contains(&format!("{number}  {reason}\n")), "{list}");
         for line in page.lines() {
-            assert!(line.chars().count() <= 90, "{line}");
+            assert!(line.chars().count() <= 80, "{line}");
         }
     }
 }

@@ -9,7 +9,9 @@ use std::os::unix::ffi::OsStrExt;
 use folder::{text, tool, Folder};
 use workbench::samples::A;
 
-const COMMANDS: [&str; 6] = ["check", "infer", "preview", "replace", "watch", "help"];
+const COMMANDS: [&str; 8] = [
+    "check", "infer", "preview", "replace", "watch", "picture", "explain", "help",
+];
 
 /// What is said of words that are not understood: one or two lines.
 fn mistake(words: &[&str]) -> String {

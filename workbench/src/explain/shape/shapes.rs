@@ -226,8 +226,8 @@ fn set(line: &[u8], at: usize) -> Result<usize, Fault> {
 /// How the innermost bracketed part that a place stands in is written.
 pub fn part_around(line: &[u8], at: usize) -> Option<String> {
     let mut open = vec![];
-    for place in 0..at.min(line.len()) {
-        match line[place] {
+    for (place, byte) in line.iter().enumerate().take(at) {
+        match byte {
             b'[' => open.push(place + 1),
             b']' => {
                 open.pop();

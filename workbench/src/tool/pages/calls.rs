@@ -27,8 +27,8 @@ dispenser_load(file, length, store, size);",
     Page {
         reason: Reason::StoreEmpty,
         means: "\
-The store is empty: no file was loaded into it, or the last one was refused. Of a
-run: it was not begun. Load never answers this.",
+The store is empty: no file was loaded into it, or the last one was refused. Of
+a run: it was not begun. Load never answers this.",
         example: Example::Call {
             file: None,
             call: "\
@@ -88,8 +88,8 @@ A verdict was asked on a number that is not that of a chan row.",
         reason: Reason::MoveNotAllowed,
         means: "\
 The run rules do not allow the move, or it names no thread. A thread at a sync
-moves only together with one at the other end of the same channel; a result with
-no call waiting has no move. The run is as it was.",
+moves only together with one at the other end of the same channel; a result
+with no call waiting has no move. The run is as it was.",
         example: Example::Call {
             file: FILE,
             call: "channel-check watch --replay 0,0,0 FILE",
@@ -100,14 +100,14 @@ no call waiting has no move. The run is as it was.",
     Page {
         reason: Reason::MoveTooLarge,
         means: "\
-The move is allowed, but would take more than the 4,096 cells, 1,024 frames or 64
-threads of a run. The run is as it was, and other moves may be possible.",
+The move is allowed, but would take more than the 4,096 cells, 1,024 frames or
+64 threads of a run. The run is as it was, and other moves may be possible.",
         example: Example::Call {
             file: Some(include_str!("../../../samples/endless.txt")),
             call: "channel-check watch --replay MOVES FILE",
             wrong: "\
-MOVES is 0 for 1,027 times, with commas between. After two moves each call waits
-for the one that it makes, and there are 1,024 frames.",
+MOVES is 0 for 1,027 times, with commas between. After two moves each call
+waits for the one that it makes, and there are 1,024 frames.",
             cure: "channel-check watch --random 1 --moves 1000 FILE",
         },
     },
@@ -126,8 +126,8 @@ was.",
     Page {
         reason: Reason::SetNotAllowed,
         means: "\
-The rows of a set that was given do not rise, or one of them is absent or no value
-row. The store is as it was.",
+The rows of a set that was given do not rise, or one of them is absent or no
+value row. The store is as it was.",
         example: Example::Call {
             file: FILE,
             call: "channel-check preview FILE 1 '[2]'",

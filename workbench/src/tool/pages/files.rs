@@ -17,23 +17,23 @@ the refusal has no line.",
             file: None,
             call: "channel-check check samples/refused_01.txt",
             wrong: "\
-That file has 33,299 bytes: 160 rows, and flow lines with sets of 159 rows. Most
-often it is the tables that are too wide.",
+That file has 33,299 bytes: 160 rows, and flow lines with sets of 159 rows.
+Most often it is the tables that are too wide.",
             cure: "\
 Take the flow and comm lines out of the file, and let
 channel-check infer FILE
-put in the smallest tables that keep the flow rules. If these are too wide still,
-the program must be divided.",
+put in the smallest tables that keep the flow rules. If these are too
+wide still, the program must be divided.",
         },
     },
     Page {
         reason: Reason::NotALine,
         means: "\
 The first line is `[dispenser 1]`. After it come lines of four kinds in this
-order: rows, flow lines, comm lines, claims. Each is spelled exactly so, with one
-space between parts and no other, without comments, and is ended by byte 10, the
-last line too. Numbers have one to three digits and no leading zero. Any other
-line is refused.",
+order: rows, flow lines, comm lines, claims. Each is spelled exactly so, with
+one space between parts and no other, without comments, and is ended by byte
+10, the last line too. Numbers have one to three digits and no leading zero.
+Any other line is refused.",
         example: Example::File {
             text: include_str!("../../../samples/refused_02.txt"),
             line: 3,
@@ -69,8 +69,8 @@ is refused with this too.",
     Page {
         reason: Reason::NotRising,
         means: "\
-The names of flow lines rise from line to line; so do the rows of comm lines and
-of claims, and the rows in a set. None may stand twice.",
+The names of flow lines rise from line to line; so do the rows of comm lines
+and of claims, and the rows in a set. None may stand twice.",
         example: Example::File {
             text: include_str!("../../../samples/refused_05.txt"),
             line: 6,
@@ -81,10 +81,10 @@ of claims, and the rows in a set. None may stand twice.",
     Page {
         reason: Reason::Pointer,
         means: "\
-The rows are a tree: each row but row 0 is pointed at exactly once, from a smaller
-row. A bind points at the row of its rest; spawn, fun and case point at the rows
-inside them. A row that is absent, not greater, or pointed at by another already
-may not be pointed at, and no row may be left out.",
+The rows are a tree: each row but row 0 is pointed at exactly once, from a
+smaller row. A bind points at the row of its rest; spawn, fun and case point at
+the rows inside them. A row that is absent, not greater, or pointed at by
+another already may not be pointed at, and no row may be left out.",
         example: Example::File {
             text: include_str!("../../../samples/refused_06.txt"),
             line: 3,
@@ -96,8 +96,8 @@ may not be pointed at, and no row may be left out.",
         reason: Reason::BoundEarlier,
         means: "\
 A name is bound at most once in a file, wherever its scope is. Binders are the
-name of a bind, a function's own name and its parameter, and the names in the two
-branches of a case.",
+name of a bind, a function's own name and its parameter, and the names in the
+two branches of a case.",
         example: Example::File {
             text: include_str!("../../../samples/refused_07.txt"),
             line: 3,
@@ -121,8 +121,8 @@ the name of a branch in that branch.",
     Page {
         reason: Reason::Misnamed,
         means: "\
-A flow line names a bound name; comm lines and claims name chan rows. A set holds
-`u` and value rows: chan, send, recv, pair, left, right and fun.",
+A flow line names a bound name; comm lines and claims name chan rows. A set
+holds `u` and value rows: chan, send, recv, pair, left, right and fun.",
         example: Example::File {
             text: include_str!("../../../samples/refused_09.txt"),
             line: 7,
@@ -133,11 +133,12 @@ A flow line names a bound name; comm lines and claims name chan rows. A set hold
     Page {
         reason: Reason::FlowRule,
         means: "\
-The tables say which values may reach which name and which channel. Each row has a
-flow rule, by which some values must be in some sets: the value of a row in the
-set of its name, what is sent in the set of the channel's messages, and so on. The
-line is that of the first row whose rule fails. A file without tables is refused
-so at its first value row; `channel-check infer FILE` finds them.",
+The tables say which values may reach which name and which channel. Each row
+has a flow rule, by which some values must be in some sets: the value of a row
+in the set of its name, what is sent in the set of the channel's messages, and
+so on. The line is that of the first row whose rule fails. A file without
+tables is refused so at its first value row; `channel-check infer FILE` finds
+them.",
         example: Example::File {
             text: include_str!("../../../samples/refused_10.txt"),
             line: 3,
@@ -148,13 +149,13 @@ so at its first value row; `channel-check infer FILE` finds them.",
     Page {
         reason: Reason::Claim,
         means: "\
-A claim says how a channel is used in any run: one-sync, at most one send and one
-receive; one-shot, at most one send; fan-out, one thread sends; fan-in, one thread
-receives; one-to-one, both; many, anything. By the tables there are two walks
-through the rows that can share a run and break the word. The line is that of the
-first claim that fails. Either the word is too lean, or the program is wrong, or
-the tables are wider than they need be: `channel-check infer FILE` finds the
-smallest.",
+A claim says how a channel is used in any run: one-sync, at most one send and
+one receive; one-shot, at most one send; fan-out, one thread sends; fan-in, one
+thread receives; one-to-one, both; many, anything. By the tables there are two
+walks through the rows that can share a run and break the word. The line is
+that of the first claim that fails. Either the word is too lean, or the program
+is wrong, or the tables are wider than they need be: `channel-check infer FILE`
+finds the smallest.",
         example: Example::File {
             text: include_str!("../../../samples/refused_11.txt"),
             line: 12,
