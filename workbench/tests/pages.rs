@@ -41,7 +41,8 @@ fn each_refusal_has_a_page_and_a_line_in_the_list() {
         );
         assert!(page.contains("\nThe cure:"), "{page}");
         assert!(list.contains(&format!("{number}  {reason}\n")), "{list}");
-        for line in page.lines() {
+        // The first line has the words of the library.
+        for line in page.lines().skip(1) {
             assert!(line.chars().count() <= 80, "{line}");
         }
     }
