@@ -55,7 +55,7 @@ fn parts(part: &str) -> Vec<PathBuf> {
 }
 
 fn count_lines<'a>(files: impl IntoIterator<Item = &'a PathBuf>) -> usize {
-    let texts = files.into_iter().map(|file| std::fs::read_to_string(file));
+    let texts = files.into_iter().map(std::fs::read_to_string);
     texts.map(|text| text.unwrap().lines().count()).sum()
 }
 
