@@ -1,4 +1,5 @@
-//! The tool run as a program on files in a folder.
+//! The tool run as a program on files in a folder. Not every test takes all of it.
+#![allow(dead_code)]
 
 use std::path::PathBuf;
 use std::process::{Command, Output, Stdio};

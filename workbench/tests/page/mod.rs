@@ -2,12 +2,10 @@
 //! every test takes all of it.
 #![allow(dead_code)]
 
-use std::path::{Path, PathBuf};
+#[path = "../c_code/mod.rs"]
+pub mod c_code;
 
-/// A file or folder of the repository.
-pub fn of_repository(name: &str) -> PathBuf {
-    Path::new(env!("CARGO_MANIFEST_DIR")).join("..").join(name)
-}
+pub use c_code::of_repository;
 
 /// The text of a file of the repository.
 pub fn read(name: &str) -> String {
