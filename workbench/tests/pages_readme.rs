@@ -188,3 +188,18 @@ fn links_lead_somewhere() {
         assert!(there, "{target}");
     }
 }
+
+#[test]
+fn the_calls_of_the_rattle_crate_are_those_it_passes_on() {
+    let page = page();
+    let calls = page.split("\nchecker::").skip(1);
+    let mut named: Vec<&str> = calls.map(|call| call.split('(').next().unwrap()).collect();
+    named.sort();
+    let source = read("crates/checker/src/lib.rt");
+    let passed = source.lines().filter(|line| line.starts_with("pub use "));
+    let mut passed: Vec<&str> = passed
+        .map(|line| line.trim_end_matches(';').rsplit("::").next().unwrap())
+        .collect();
+    passed.sort();
+    assert_eq!(named, passed);
+}
