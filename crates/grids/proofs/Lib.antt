@@ -1,4 +1,4 @@
--- What is kept of a grid, a grid that is cleared, rows of it joined, and the rounds that close it.
+-- What is kept of a grid, a grid of zeros, rows of it joined, and the rounds that close it.
 pub mod Keeping
 pub mod Steps
 pub mod Stepping

@@ -25,14 +25,14 @@ use Rattle.store.proofs.Laws.{program-length}
 use Rattle.tables.specs.Tables.{storeFlow}
 use Rattle.forms.proofs.Forms.{row-past}
 use Rattle.grids.specs.Grid.{Shows}
-use Rattle.row_marks.specs.RowMarks.{on, marked, Marked}
+use Rattle.row_marks.specs.RowMarks.{on, marked, Marked, NoneMarked}
 use Rattle.row_marks.proofs.Marking.{marked-in, marked-is}
 use Rattle.place_marks.specs.declared.Side.{Side}
 use Rattle.place_marks.specs.declared.Side.the-variants.{Sends, Receives}
 use Rattle.place_marks.specs.Places.{place}
 use Rattle.walks.specs.Walks.{comesTo}
-use Rattle.verdicts.specs.Words.{wordIn, factsIn}
-use Rattle.verdicts.proofs.Ends.{on-pick}
+use Rattle.verdicts.specs.Words.{wordIn, factsIn, noFacts}
+use Rattle.verdicts.proofs.Ends.{on-pick, ends-nowhere, none-there}
 
 -- what is found depends on the rows of the program that shared beginnings come to, and on no other
 ends-same : (p : Program) (reach : ℕ → ℕ → Bool) (f g places : ℕ → Bool) → ((r : ℕ) → r < length p → f r ≡ g r) → ends p reach f places ≡ ends p reach g places
@@ -75,13 +75,23 @@ module _ (n : ℕ) (s : Bytes) where
       λ places. ends-same p reaches _ _ places λ r l. comes-is grid few shows m r (rw (program-length n s) at l) in
       e ∙ rw (marked-is n a (place-past Sends c), marked-is n b (place-past Receives c), same (sendPlace p (storeFlow s) c), same (receivePlace p (storeFlow s) c))
 
+-- a channel without places
+module _ (n : ℕ) (s : Bytes) (c : ℕ) {sends receives : Bytes} (few : n ≤ rowLimit)
+    (a : Marked n (place (storeProgram n s) (storeFlow s) Sends c) sends) (b : Marked n (place (storeProgram n s) (storeFlow s) Receives c) receives)
+  where
+    pub no-places : NoneMarked sends → NoneMarked receives → noFacts ≡ factsIn (storeProgram n s) (storeFlow s) c
+    unfolding factsIn facts place
+    no-places h k =
+        let e : sendPlace (storeProgram n s) (storeFlow s) c ≡ (λ r. false) = sym (marked-is n a (place-past n s Sends c)) ∙ none-there n sends few h in
+        let d : receivePlace (storeProgram n s) (storeFlow s) c ≡ (λ r. false) = sym (marked-is n b (place-past n s Receives c)) ∙ none-there n receives few k in
+        rw (e, d, ← ends-nowhere (storeProgram n s) (reach (storeProgram n s) (storeFlow s)) (reached (storeProgram n s) (reach (storeProgram n s) (storeFlow s))))
+
 -- the words
 module _ (p : Program) (flow : Table) (c : ℕ) {f : Facts} (e : f ≡ factsIn p flow c) where
   pub word-is : (word : Word) {b : Bool} → b ≡ says word f → b ≡ wordIn p flow c word
   unfolding wordIn verdict factsIn
   word-is word q = q ∙ rw e
 
-  pub words-are : {oneShot oneToOne fanOut fanIn oneSync : Bool}
-      → oneShot ≡ says OneShot f → oneToOne ≡ says OneToOne f → fanOut ≡ says FanOut f → fanIn ≡ says FanIn f → oneSync ≡ says OneSync f
-      → oneShot ∷ oneToOne ∷ fanOut ∷ fanIn ∷ oneSync ∷ [] ≡ map (wordIn p flow c) verdictWords
-  words-are h i j k l = rw (word-is OneShot h, word-is OneToOne i, word-is FanOut j, word-is FanIn k, word-is OneSync l)
+  pub words-are : map (λ word. says word f) verdictWords ≡ map (wordIn p flow c) verdictWords
+  unfolding wordIn verdict factsIn
+  words-are = rw e

@@ -1,6 +1,6 @@
 -- What is found at the ends of a channel of a program with its table, and what the words say of it.
 use Prim.Native.Nat.{ℕ}
-use mathlib.Core.Bool.{Bool}
+use mathlib.Core.Bool.{Bool, false}
 use Rattle.program.specs.declared.Ends.{Ends}
 use Rattle.program.specs.declared.Facts.{Facts}
 use Rattle.program.specs.declared.Word.{Word}
@@ -27,3 +27,7 @@ module _ (p : Program) (flow : Table) where
   -- what is found at the ends of channel row c
   unfoldable pub factsIn : ℕ → Facts
   factsIn c = facts p (reach p flow) (reached p (reach p flow)) (sendPlace p flow c) (receivePlace p flow c)
+
+-- what is found where there are no places
+abbrev pub noFacts : Facts
+noFacts = record { sends = record { twice = false; rivals = false }; receives = record { twice = false; rivals = false } }

@@ -1,10 +1,12 @@
 // The words of a channel: which of the topologies hold of it, told by a grid of which rows reach which.
 use claim_words::says;
+use grids::GRID;
 use place_marks::Side;
 use place_marks::places;
 use program::Ends;
 use program::Facts;
 use program::Word;
+use reach::fill_reach;
 use row_lists::RECV;
 use row_lists::SEND;
 use row_lists::SPAWN;
@@ -19,15 +21,14 @@ ghost use mathlib.Core.List.{map};
 ghost use mathlib.Core.Path.{_≡_};
 ghost use Prim.Native.Nat.{_≤_};
 ghost use lib.ListN.{length};
-ghost use Rattle.program.specs.Verdict.{reach};
+ghost use Rattle.program.specs.Verdict.{reach, says};
 ghost use Rattle.format.specs.Limits.{rowLimit};
-ghost use Rattle.calls.specs.Layout.{storeSize};
 ghost use Rattle.calls.specs.Judging.{verdictWords};
 ghost use Rattle.store.specs.Rows.{storeProgram};
 ghost use Rattle.tables.specs.Tables.{storeFlow};
 ghost use Rattle.grids.specs.Grid.{gridSize, Shows};
 ghost use Rattle.row_lists.specs.Lists.{Lists, ofKind, spawnKind};
-ghost use Rattle.verdicts.specs.Words.{endsAt, factsAt, wordIn, factsIn};
+ghost use Rattle.verdicts.specs.Words.{endsAt, factsAt, wordIn, factsIn, noFacts};
 ghost use Rattle.verdicts.specs.Ready.{Ready};
 
 // What is found of the walks that come to the marked places, where `comes` marks the rows that their shared beginnings come to, by the list
@@ -48,6 +49,20 @@ fn ends_of(store: &[u8], rows: u8, grid: &[u8], spawns: &[u8], comes: &[u8], pla
     Ends {
         twice: three_meet(comes, places, &ahead, rows as usize),
         rivals: rivals(store, rows, spawns, comes, places, &ahead),
+    }
+}
+
+// What is found where a channel has no places.
+fn nothing_found() -> Facts
+    ensures { λ f. ⌜ f ≡ noFacts ⌝ }
+{
+    let none = Ends {
+        twice: false,
+        rivals: false,
+    };
+    Facts {
+        sends: none,
+        receives: none,
     }
 }
 
@@ -139,17 +154,53 @@ fn own_facts(store: &[u8], rows: u8, grid: &[u8], c: u8) -> Facts
     )
 }
 
-// The five words of channel row c, in the order one-shot, one-to-one, fan-out, fan-in, one-sync.
-pub fn words(store: &[u8], rows: u8, grid: &[u8], c: u8) -> [bool; 5]
-    requires { ⌜ (storeSize ≤ length (now store)) × (rows ≤ rowLimit) × (gridSize ≤ length (now grid)) ⌝ }
-    requires { ⌜ Shows (reach (storeProgram rows (now store)) (storeFlow (now store))) (now grid) ⌝ }
-    ensures { λ w. ⌜ w ≡ map (wordIn (storeProgram rows (now (store .entry))) (storeFlow (now (store .entry))) c) verdictWords ⌝ }
+// What is found at the ends of channel row c, with marks and lists of its own, and a grid only where the channel has a place.
+fn lone_facts(store: &[u8], rows: u8, c: u8) -> Facts
+    requires { ⌜ rows ≤ rowLimit ⌝ }
+    ensures { λ f. ⌜ f ≡ factsIn (storeProgram rows (now (store .entry))) (storeFlow (now (store .entry))) c ⌝ }
 {
-    let found = own_facts(store, rows, grid, c);
+    let sends = rows_of_kind(store, rows, SEND);
+    let receives = rows_of_kind(store, rows, RECV);
+    let syncs = rows_of_kind(store, rows, SYNC);
+    let sent = places(store, rows, Side::Sends, &sends, &syncs, c);
+    let received = places(store, rows, Side::Receives, &receives, &syncs, c);
+    if none_marked(&sent) {
+        if none_marked(&received) {
+            return nothing_found();
+        }
+    }
+    let mut grid = [0u8; GRID];
+    fill_reach(store, rows, &mut grid);
+    let comes = reached_rows(&grid, rows);
+    let spawns = rows_of_kind(store, rows, SPAWN);
+    facts(store, rows, &grid, &spawns, &comes, &sent, &received)
+}
+
+// The five words, in the order one-shot, one-to-one, fan-out, fan-in, one-sync, by what is found.
+fn five(found: Facts) -> [bool; 5]
+    ensures { λ w. ⌜ w ≡ map (λ word. says word found) verdictWords ⌝ }
+{
     let one_shot = says(Word::OneShot, found);
     let one_to_one = says(Word::OneToOne, found);
     let fan_out = says(Word::FanOut, found);
     let fan_in = says(Word::FanIn, found);
     let one_sync = says(Word::OneSync, found);
     [one_shot, one_to_one, fan_out, fan_in, one_sync]
+}
+
+// The five words of channel row c, told by a grid.
+pub fn words(store: &[u8], rows: u8, grid: &[u8], c: u8) -> [bool; 5]
+    requires { ⌜ (rows ≤ rowLimit) × (gridSize ≤ length (now grid)) ⌝ }
+    requires { ⌜ Shows (reach (storeProgram rows (now store)) (storeFlow (now store))) (now grid) ⌝ }
+    ensures { λ w. ⌜ w ≡ map (wordIn (storeProgram rows (now (store .entry))) (storeFlow (now (store .entry))) c) verdictWords ⌝ }
+{
+    five(own_facts(store, rows, grid, c))
+}
+
+// The five words of channel row c, with a grid of its own where the channel has a place.
+pub fn lone_words(store: &[u8], rows: u8, c: u8) -> [bool; 5]
+    requires { ⌜ rows ≤ rowLimit ⌝ }
+    ensures { λ w. ⌜ w ≡ map (wordIn (storeProgram rows (now (store .entry))) (storeFlow (now (store .entry))) c) verdictWords ⌝ }
+{
+    five(lone_facts(store, rows, c))
 }
