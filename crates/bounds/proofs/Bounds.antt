@@ -64,7 +64,7 @@ sets-few (suc k) n bs =
     let more = decodeSets k (suc n) (drop memberLimit bs) in
     omega (arith, entry-few n (membersFrom 0 (take memberLimit bs)) more, sets-few k (suc n) (drop memberLimit bs))
 
-claims-few : (c : ℕ) (ks : Bytes) → length (decodeClaims c ks) ≤ length ks
+pub claims-few : (c : ℕ) (ks : Bytes) → length (decodeClaims c ks) ≤ length ks
 unfolding decodeClaims
 claims-few c [] = omega arith
 claims-few c (k ∷ ks) =

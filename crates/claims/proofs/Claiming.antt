@@ -5,7 +5,7 @@ use native.Mathlib.Nat.{add-zero}
 use mathlib.Core.Bool.{Bool, true, false}
 use mathlib.Core.List.{List, [], _∷_}
 use mathlib.Core.Option.{Option, none, some}
-use mathlib.Core.Path.{_≡_, sym, ap}
+use mathlib.Core.Path.{_≡_, sym, ap, _∙_}
 use lib.ListN.{length, take, drop}
 use borrow.Author.Tests.{ne-eqb}
 use Rattle.format.specs.declared.Reason.the-variants.{ClaimFails}
@@ -45,6 +45,21 @@ module _ (ok : Claim → Bool) (s : Bytes) (base held : ℕ) where
     pub held-fails : (code ≡ 0 → ⊥) → ok (record { channel = c; word = wordOf code }) ≡ false → heldFrom held c ≡ Held.Until held
     unfolding claimsHeld
     held-fails z h = rw (claims-next s base c l, ← e, ne-eqb code 0 z, h)
+
+-- ---- no claim, and no claim that fails
+
+pub held-empty : (ok : Claim → Bool) (ks : List Claim) {many : ℕ} → many ≡ length ks → many ≡ 0 → Held.All many ≡ claimsHeld ok 0 ks
+unfolding claimsHeld
+held-empty ok [] e z = ap Held.All z
+held-empty ok (k ∷ ks) e z = absurd (omega (arith, e, z))
+
+held-more : (ok : Claim → Bool) → ((k : Claim) → ok k ≡ true) → (held : ℕ) (ks : List Claim) → claimsHeld ok held ks ≡ Held.All (held + length ks)
+unfolding claimsHeld
+held-more ok h held [] = ap Held.All (sym (add-zero held))
+held-more ok h held (k ∷ ks) = let q : held + 1 + length ks ≡ held + suc (length ks) = omega arith in rw (h k) (rw q at (held-more ok h (held + 1) ks))
+
+pub held-all : (ok : Claim → Bool) (ks : List Claim) {many : ℕ} → many ≡ length ks → ((k : Claim) → ok k ≡ true) → Held.All many ≡ claimsHeld ok 0 ks
+held-all ok ks e h = let q : 0 + length ks ≡ length ks = omega arith in ap Held.All e ∙ sym (rw q at (held-more ok h 0 ks))
 
 -- ---- the first that fails
 

@@ -5,7 +5,7 @@ use mathlib.Core.Bool.{Bool, true, false, not}
 use mathlib.Core.List.{List, map}
 use mathlib.Core.Option.{Option, none, some}
 use mathlib.Core.Path.{_≡_, refl, sym, ap, _∙_, fun-ext}
-use lib.ListN.{length, take, drop, length-drop}
+use lib.ListN.{length, take, drop, length-take, length-drop}
 use lib.Seq.{take-all}
 use Rattle.program.specs.declared.Word.{Word}
 use Rattle.program.specs.Test.{least}
@@ -26,7 +26,7 @@ use Rattle.calls.specs.Canonical.{countRows}
 use Rattle.calls.specs.Judging.{wordHolds, reaches, failingRow, failingClaim, after10, judgeClaims, judgeDocument, verdictDocument, verdictWords}
 use Rattle.calls.specs.Calls.{judgeAnswered, noVerdict, verdictGiven, verdictOf}
 use Rattle.calls.proofs.Canonical.Rows.{count-rows-le}
-use Rattle.bounds.proofs.Bounds.{sets-few}
+use Rattle.bounds.proofs.Bounds.{sets-few, claims-few}
 use Rattle.store.specs.Rows.{storeProgram, rowOr}
 use Rattle.store.proofs.Laws.{program-length}
 use Rattle.store.specs.Document.{storeDocument}
@@ -36,6 +36,14 @@ use Rattle.verdicts.specs.Words.{wordIn}
 use Rattle.claims.specs.declared.Held.{Held}
 use Rattle.claims.specs.Claims.{claimIn, claimsHeld, judgedAt}
 use Rattle.claims.proofs.Claiming.{answerOf, judged-is}
+
+-- the count of the claims
+pub claims-counted : (s : Bytes) {many : ℕ} → length s ≡ storeSize → many ≡ length (decodeClaims 0 (take (length s - claimsStart) (drop claimsStart s)))
+    → (many ≡ length (decodeClaims 0 (take rowLimit (drop claimsStart s)))) × (many ≤ rowLimit)
+claims-counted s {many} size e =
+    let q : length s - claimsStart ≡ rowLimit = omega (arith, size) in
+    let same : many ≡ length (decodeClaims 0 (take rowLimit (drop claimsStart s))) = rw q at e in
+    (same, omega (arith, same, claims-few 0 (take rowLimit (drop claimsStart s)), length-take rowLimit (drop claimsStart s)))
 
 -- ---- the store's document
 

@@ -7,7 +7,7 @@ ghost use Rattle.calls.specs.Layout.{storeSize, decodeClaims};
 ghost use Rattle.line_counts.specs.Counting.{storeCounts};
 
 // How many rows have a claim, of which each has a code.
-fn count_claims(codes: &[u8]) -> usize
+pub fn count_claims(codes: &[u8]) -> usize
     ensures { λ r. ⌜ r ≡ length (decodeClaims 0 (now (codes .entry))) ⌝ }
 {
     let mut lines = 0;

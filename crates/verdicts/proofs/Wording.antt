@@ -2,15 +2,16 @@
 use Prim.Native.Nat.{ℕ, _<_, _≤_}
 use native.Mathlib.Omega.{arith}
 use native.Mathlib.Nat.{add-zero}
-use mathlib.Core.Bool.{Bool, false, _||_}
+use native.Mathlib.Decide.{decLt}
+use mathlib.Core.Bool.{Bool, true, false, _||_}
 use mathlib.Core.List.{[], _∷_, map}
 use mathlib.Core.Option.{none}
-use mathlib.Core.Path.{_≡_, sym, ap, _∙_}
+use mathlib.Core.Path.{_≡_, refl, sym, ap, _∙_, fun-ext}
 use lib.ListN.{length}
 use lib.Dec.{eqb}
 use Rattle.program.specs.declared.Facts.{Facts}
 use Rattle.program.specs.declared.Word.{Word}
-use Rattle.program.specs.declared.Word.the-variants.{OneShot, OneToOne, FanOut, FanIn, OneSync}
+use Rattle.program.specs.declared.Word.the-variants.{OneShot, OneToOne, FanOut, FanIn, Many, OneSync}
 use Rattle.program.specs.Maybe.{has, _>>=_}
 use Rattle.program.specs.Flow.{Table}
 use Rattle.program.specs.Program.{Program, bindAt, bindOf, formAt, syncAt}
@@ -18,13 +19,15 @@ use Rattle.program.specs.Walk.{sendPlace, receivePlace}
 use Rattle.program.specs.Verdict.{reach, says, reached, inARow, rivals, ends, facts, verdict}
 use Rattle.program.proofs.Test.{any-same}
 use Rattle.format.specs.Limits.{rowLimit}
-use Rattle.format.specs.Text.{Bytes}
+use Rattle.format.specs.Text.{Bytes, byteAt}
 use Rattle.calls.specs.Judging.{verdictWords}
 use Rattle.store.specs.Rows.{storeProgram}
 use Rattle.store.proofs.Laws.{program-length}
 use Rattle.tables.specs.Tables.{storeFlow}
 use Rattle.forms.proofs.Forms.{row-past}
 use Rattle.grids.specs.Grid.{Shows}
+use Rattle.row_lists.specs.Lists.{Lists, ofKind, syncKind}
+use Rattle.row_lists.proofs.OfKind.{sync-none}
 use Rattle.row_marks.specs.RowMarks.{on, marked, Marked, NoneMarked}
 use Rattle.row_marks.proofs.Marking.{marked-in, marked-is}
 use Rattle.place_marks.specs.declared.Side.{Side}
@@ -85,6 +88,38 @@ module _ (n : ℕ) (s : Bytes) (c : ℕ) {sends receives : Bytes} (few : n ≤ r
         let e : sendPlace (storeProgram n s) (storeFlow s) c ≡ (λ r. false) = sym (marked-is n a (place-past n s Sends c)) ∙ none-there n sends few h in
         let d : receivePlace (storeProgram n s) (storeFlow s) c ≡ (λ r. false) = sym (marked-is n b (place-past n s Receives c)) ∙ none-there n receives few k in
         rw (e, d, ← ends-nowhere (storeProgram n s) (reach (storeProgram n s) (storeFlow s)) (reached (storeProgram n s) (reach (storeProgram n s) (storeFlow s))))
+
+-- a program without syncs
+module _ (n : ℕ) (s : Bytes) {syncs : Bytes} (h : Lists n (ofKind s syncKind) syncs) (z : byteAt syncs 0 ≡ 0) where
+  none-of : (r : ℕ) → r < n → ofKind s syncKind r ≡ false
+  none-of r l = go (ofKind s syncKind r) refl
+    where
+      go : (b : Bool) → ofKind s syncKind r ≡ b → b ≡ false
+      go true e = let (i, k, q) = h .all r l e in absurd (omega (arith, k, z))
+      go false e = refl
+
+  no-sync : (r : ℕ) → syncAt (storeProgram n s) r ≡ none
+  no-sync r =
+      elim (decLt r n) [
+        | yes l ↦ sync-none n s r l (none-of r l)
+        | no g ↦ sync-past n s r (omega arith)
+      ]
+
+  says-nothing : (word : Word) → says word noFacts ≡ true
+  unfolding says
+  says-nothing OneShot = refl
+  says-nothing OneToOne = refl
+  says-nothing FanOut = refl
+  says-nothing FanIn = refl
+  says-nothing Many = refl
+  says-nothing OneSync = refl
+
+  pub words-hold : (c : ℕ) (word : Word) → wordIn (storeProgram n s) (storeFlow s) c word ≡ true
+  unfolding wordIn verdict facts sendPlace receivePlace has
+  words-hold c word =
+      let e : sendPlace (storeProgram n s) (storeFlow s) c ≡ (λ r. false) = fun-ext λ r. rw (no-sync r) in
+      let d : receivePlace (storeProgram n s) (storeFlow s) c ≡ (λ r. false) = fun-ext λ r. rw (no-sync r) in
+      rw (e, d, ← ends-nowhere (storeProgram n s) (reach (storeProgram n s) (storeFlow s)) (reached (storeProgram n s) (reach (storeProgram n s) (storeFlow s)))) (says-nothing word)
 
 -- the words
 module _ (p : Program) (flow : Table) (c : ℕ) {f : Facts} (e : f ≡ factsIn p flow c) where

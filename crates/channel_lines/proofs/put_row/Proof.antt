@@ -16,7 +16,7 @@ words-requires : tie.Need-words-requires
 words-requires c κs =
     let start = c .before .before .before .before .before in
     let (size, counted, big) = start .pre .0 in
-    ((size, omega (arith, counted, count-rows-le rowLimit (start .args .store .now)), big), start .pre .1 .0)
+    ((omega (arith, counted, count-rows-le rowLimit (start .args .store .now)), big), start .pre .1 .0)
 
 array-read-put-channel : tie.Need-array-read-put-channel
 array-read-put-channel c = search needs

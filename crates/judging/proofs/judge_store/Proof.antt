@@ -19,7 +19,7 @@ returns c = rw (c .flow-refusal .ensures)
     })
 
 fill-reach-requires : tie.Need-fill-reach-requires
-fill-reach-requires c κs = (few-rows _ _ (c .before .before .before .before .before .pre .1 .0), c .before .before .before .before .before .pre .1 .1)
+fill-reach-requires c κs = let pre = c .before .before .before .before .before .pre in ((few-rows _ _ (pre .1 .0), pre .1 .1 .0), pre .1 .1 .1)
 
 judge-claims-requires : tie.Need-judge-claims-requires
 judge-claims-requires c κs = ((few-rows _ _ (c .before .before .before .before .before .before .before .before .before .pre .1 .0), search needs), c .before .before .before .fill-reach .ensures .shows)

@@ -35,27 +35,15 @@ returns-2 c =
     (verdict-refused _ _ (chan .before .before .before .before .pre .1) _ (sym (chan .before .is-chan .ensures) ∙ chan .if2 .taken) (c .before .before .before .failing-row .ensures)
     (c .before .before .if3 .taken))
 
-slice-aggregate-fill-reach : tie.Need-slice-aggregate-fill-reach
-slice-aggregate-fill-reach c = search needs
-
-fill-reach-requires : tie.Need-fill-reach-requires
-fill-reach-requires c κs = (few-rows _ _ (c .before .before .before .before .before .before .before .pre .1), search needs)
-
-slice-aggregate-words : tie.Need-slice-aggregate-words
-slice-aggregate-words c = search needs
-
-words-requires : tie.Need-words-requires
-words-requires c κs =
-    let filled = c .before .before in
-    let entry = filled .before .before .before .before .before .before .before .before in
-    ((omega (arith, entry .pre .0), few-rows _ _ (entry .pre .1), search needs), filled .fill-reach .ensures .shows)
+lone-words-requires : tie.Need-lone-words-requires
+lone-words-requires c κs = few-rows _ _ (c .before .before .before .before .before .before .pre .1)
 
 returns-3 : tie.Need-returns-3
 returns-3 c =
-    let kept = c .before .before .before .before .before in
+    let kept = c .before in
     let chan = kept .before .before in
     verdict-goes _ _ (chan .before .before .before .before .pre .1) _ (sym (chan .before .is-chan .ensures) ∙ chan .if2 .taken) (kept .before .failing-row .ensures) (kept .if3 .left)
-    (c .words .ensures)
+    (c .lone-words .ensures)
 
 not-a-channel-requires-2 : tie.Need-not-a-channel-requires-2
 not-a-channel-requires-2 c κs = search needs
@@ -75,10 +63,7 @@ verdict-rows-spec =
     flow-refusal-requires
     no-verdict-requires
     returns-2
-    slice-aggregate-fill-reach
-    fill-reach-requires
-    slice-aggregate-words
-    words-requires
+    lone-words-requires
     returns-3
     not-a-channel-requires-2
     returns-4)

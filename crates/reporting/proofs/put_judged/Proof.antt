@@ -1,9 +1,10 @@
 -- What judging the store gives: its refusal, or its count and its channels' lines. In each branch the writes are the parts of the report.
 use native.Mathlib.Omega.{arith}
-use mathlib.Core.Path.{sym}
+use mathlib.Core.Path.{refl, sym}
 use Rattle.write_bytes.proofs.Writing.{then, room-first, room-then}
 use Rattle.opening.proofs.Opening.{fixed-size, counted}
 use Rattle.reporting.proofs.Reports.{refused-room, opened-room, judged-line, judged-count, judged-refused, judged-accepted}
+use Rattle.grids.proofs.Keeping.{zeros-show}
 use borrow.Author.Needs.{needs}
 use Rattle.reporting.proofs.put_judged.Statement.{statement}
 use Rattle.reporting.proofs.put_judged.Tie as tie
@@ -17,7 +18,7 @@ slice-aggregate-judge-store c = search needs
 judge-store-requires : tie.Need-judge-store-requires
 judge-store-requires c κs =
     let start = c .before .before .before .before in
-    (fixed-size _ _ (start .pre), (counted _ _ (start .pre), search needs))
+    (fixed-size _ _ (start .pre), (counted _ _ (start .pre), (search needs, zeros-show _ refl)))
 
 enum-known-refusal : tie.Need-enum-known-refusal
 enum-known-refusal c = search needs
