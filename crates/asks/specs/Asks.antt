@@ -3,7 +3,7 @@ use Prim.Native.Nat.{ℕ}
 use mathlib.Core.Bool.{Bool, _&&_}
 use mathlib.Core.Path.{_≡_}
 use Rattle.program.specs.Maybe.{when}
-use Rattle.program.specs.Program.{Program, recvAt, pairAt, leftAt, rightAt, funAt, resultName}
+use Rattle.program.specs.Program.{Program, pairAt, leftAt, rightAt, funAt, resultName}
 use Rattle.program.specs.Flow.{Set, Table, lies}
 use Rattle.format.specs.Text.{Bytes, byteAt}
 use Rattle.store.specs.Rows.{storeProgram}
@@ -15,9 +15,8 @@ unfoldable pub Names : Program → Bytes → Type 0
 Names p names = (t : ℕ) → byteAt names t ≡ resultName p t
 
 module _ (p : Program) (flow comm : Table) where
-  -- what a form asks of row k in its set, where its own set is t; of a sync, that the channels of a recv row lie in t
+  -- what a form asks of row k in its set, where its own set is t
   unfoldable pub asks : Ask → Set → ℕ → Bool
-  asks Ask.Recv t k = when (recvAt p k) λ c. lies p (flow c) t
   asks Ask.First t k = when (pairAt p k) λ (x, y). lies p (flow x) t
   asks Ask.Second t k = when (pairAt p k) λ (x, y). lies p (flow y) t
   asks (Ask.Case x l y r) t k =

@@ -13,9 +13,8 @@ ghost use Rattle.tables.specs.Tables.{storeFlow};
 ghost use Rattle.sets.specs.Sets.{Sized, setOf};
 ghost use Rattle.asks.specs.Asks.{Names, storeAsks};
 
-// What a form asks of each row in its set: its kind, and the names whose sets it compares with that of the row. A sync asks it of recv rows.
+// What a form asks of each row in its set: its kind, and the names whose sets it compares with that of the row.
 pub enum Ask {
-    Recv,
     First,
     Second,
     Case {
@@ -37,17 +36,6 @@ fn both_lie(store: &[u8], rows: u8, a: u8, x: u8, n: u8, to: &[u8]) -> bool
         return flow_lies(store, rows, n, to);
     }
     false
-}
-
-// Whether row k passes a sync: a recv row's channels.
-fn recv_passes(store: &[u8], rows: u8, k: u8, to: &[u8]) -> bool
-    requires { ⌜ Sized rows (now store) ⌝ }
-    ensures { λ b. ⌜ b ≡ storeAsks rows (now (store .entry)) Ask.Recv (setOf (now (to .entry))) k ⌝ }
-{
-    let Form::Recv { channel } = form_at(store, rows, k) else {
-        return true;
-    };
-    flow_lies(store, rows, channel, to)
 }
 
 // Whether row k passes a first: a pair's first name.
@@ -118,7 +106,6 @@ fn passes(store: &[u8], rows: u8, ask: Ask, names: &[u8], k: u8, to: &[u8]) -> b
     ensures { λ b. ⌜ b ≡ storeAsks rows (now (store .entry)) ask (setOf (now (to .entry))) k ⌝ }
 {
     match ask {
-        Ask::Recv => recv_passes(store, rows, k, to),
         Ask::First => first_passes(store, rows, k, to),
         Ask::Second => second_passes(store, rows, k, to),
         Ask::Case {

@@ -1,82 +1,109 @@
-// What is asked of the channels of a send or recv row.
+// What a sync asks of the channels of a send row: that they hold the set of its message.
+use byte_order::smaller;
 use forms::form_at;
+use members::has_row;
 use program::Form;
-use sets::comm_lies;
-use sets::flow_lies;
+use sets::comm_set;
 use sets::flow_set;
+use sets::lies_in;
 use sets::lies_in_comm;
 use store::Store;
+ghost use mathlib.Core.Bool.{_&&_};
 ghost use mathlib.Core.Path.{_≡_};
+ghost use Prim.Native.Nat.{_≤_, min};
+ghost use lib.ListN.{length};
+ghost use Rattle.program.specs.Flow.{lies, forEachChan};
+ghost use Rattle.calls.specs.Layout.{memberLimit};
 ghost use Rattle.store.specs.Rows.{storeProgram};
 ghost use Rattle.tables.specs.Tables.{storeFlow, storeComm};
 ghost use Rattle.row_lists.specs.Lists.{Lists, ofKind, chanKind, sendKind};
-ghost use Rattle.sets.specs.Sets.{Sized, PassingSet, setOf};
-ghost use Rattle.channel_asks.specs.Channels.{sendDemand, meets, chanTest, sendTest, Sends};
+ghost use Rattle.sets.specs.Sets.{Sized, Bytewise, setOf};
+ghost use Rattle.channel_asks.specs.Channels.{sendTest, Sends, AllHold};
 
-// What is asked of a channel beside a set: that its own set lies within that set, that it holds that set, or that there is no such channel.
-pub enum Demand {
-    Within,
-    Holds,
-    Never,
-}
-
-// What a sync asks of a send's channels: with unit in its own set, that they hold the message's set; without it, that there are none.
-fn send_demand(given: bool) -> Demand
-    ensures { λ t. ⌜ t ≡ sendDemand given ⌝ }
+// Makes each byte of a set the smaller of it and that of another.
+fn meet(set: &mut [u8], other: &[u8])
+    requires { ⌜ (memberLimit ≤ length (now set)) × (memberLimit ≤ length (now other)) ⌝ }
+    ensures { λ _. ⌜ Bytewise min memberLimit (now (other .entry)) (now (set .entry)) (now (set .exit)) ⌝ }
 {
-    if given { Demand::Holds } else { Demand::Never }
-}
-
-// Whether row k, as a chan row, meets a demand.
-fn chan_meets(store: &[u8], rows: u8, demand: Demand, set: &[u8], k: u8) -> bool
-    requires { ⌜ Sized rows (now store) ⌝ }
-    ensures { λ b. ⌜ (let bytes = now (store .entry) in b ≡ meets (storeProgram rows bytes) (storeComm bytes) demand (setOf (now (set .entry))) k) ⌝ }
-{
-    match demand {
-        Demand::Within => comm_lies(store, rows, k, set),
-        Demand::Holds => lies_in_comm(store, rows, set, k),
-        Demand::Never => false,
+    let mut i = 0;
+    while i < Store::MEMBERS {
+        let own = set[i];
+        set[i] = smaller(own, other[i]);
+        i += 1;
     }
 }
 
-// Unit and the rows that meet a demand, as a set, by the list of the chan rows, since every other row meets it: the channels of a set all
-// meet it exactly if that set lies in this one.
-pub fn passing(
-    store: &[u8],
-    rows: u8,
-    chans: &[u8],
-    demand: Demand,
-    set: &[u8],
-) -> [u8; Store::MEMBERS]
+// A set that every channel holds, by the list of the chan rows.
+fn held_by_all(store: &[u8], rows: u8, chans: &[u8]) -> [u8; Store::MEMBERS]
     requires { ⌜ Sized rows (now store) ⌝ }
     requires { ⌜ Lists rows (ofKind (now store) chanKind) (now chans) ⌝ }
-    ensures { λ marks. ⌜ (let bytes = now (store .entry) in PassingSet rows (chanTest (storeProgram rows bytes) (storeComm bytes) demand (setOf (now (set .entry)))) marks) ⌝ }
+    ensures { λ all. ⌜ AllHold rows (now (store .entry)) all ⌝ }
 {
     let many = read_text::byte_at(chans, 0);
-    let mut marks = [1u8; Store::MEMBERS];
+    let mut all = [1u8; Store::MEMBERS];
     let mut i = 0;
     while i < many {
         i += 1;
         let k = read_text::byte_at(chans, i as usize);
-        let pass = chan_meets(store, rows, demand, set, k) as u8;
-        let j = k as usize + 1;
-        marks[j] = pass;
+        let set = comm_set(store, k);
+        if set.len() < Store::MEMBERS {
+            return [0u8; Store::MEMBERS];
+        }
+        meet(&mut all, set);
     }
-    marks
+    all
 }
 
-// Whether row s, if it is a send row, passes a sync with or without unit in its set.
-fn send_passes(store: &[u8], rows: u8, chans: &[u8], given: bool, s: u8) -> bool
+// Whether channel row k is as a sync asks, with or without unit in its set: it holds a set, or there is no such channel.
+fn chan_holds(store: &[u8], rows: u8, given: bool, set: &[u8], k: u8) -> bool
+    requires { ⌜ Sized rows (now store) ⌝ }
+    ensures { λ b. ⌜ (let bytes = now (store .entry) in b ≡ given && lies (storeProgram rows bytes) (setOf (now (set .entry))) (storeComm bytes k)) ⌝ }
+{
+    if given {
+        return lies_in_comm(store, rows, set, k);
+    }
+    false
+}
+
+// Whether each channel in a set is so, by the list of the chan rows.
+fn chans_hold(store: &[u8], rows: u8, chans: &[u8], given: bool, from: &[u8], set: &[u8]) -> bool
     requires { ⌜ Sized rows (now store) ⌝ }
     requires { ⌜ Lists rows (ofKind (now store) chanKind) (now chans) ⌝ }
+    ensures { λ b. ⌜ (let bytes = now (store .entry) in b ≡ forEachChan (storeProgram rows bytes) (setOf (now (from .entry))) λ k. given && lies (storeProgram rows bytes) (setOf (now (set .entry))) (storeComm bytes k)) ⌝ }
+{
+    let many = read_text::byte_at(chans, 0);
+    let mut i = 0;
+    while i < many {
+        i += 1;
+        let k = read_text::byte_at(chans, i as usize);
+        if has_row(from, k) {
+            if chan_holds(store, rows, given, set, k) {
+                continue;
+            }
+            return false;
+        }
+    }
+    true
+}
+
+// Whether row s, if it is a send row, passes a sync with or without unit in its set. A message that every channel holds passes at once.
+fn send_passes(store: &[u8], rows: u8, chans: &[u8], all: &[u8], given: bool, s: u8) -> bool
+    requires { ⌜ Sized rows (now store) ⌝ }
+    requires { ⌜ Lists rows (ofKind (now store) chanKind) (now chans) ⌝ }
+    requires { ⌜ AllHold rows (now store) (now all) ⌝ }
     ensures { λ b. ⌜ (let bytes = now (store .entry) in b ≡ sendTest (storeProgram rows bytes) (storeFlow bytes) (storeComm bytes) given s) ⌝ }
 {
     let Form::Send { channel, message } = form_at(store, rows, s) else {
         return true;
     };
     let set = flow_set(store, message);
-    let marks = passing(store, rows, chans, send_demand(given), set);
-    flow_lies(store, rows, channel, &marks)
+    if given {
+        if lies_in(set, all, rows) {
+            return true;
+        }
+    }
+    let from = flow_set(store, channel);
+    chans_hold(store, rows, chans, given, from, set)
 }
 
 // Unit and the rows that pass, as a set, by the list of the send rows, since every other row passes.
@@ -94,11 +121,15 @@ pub fn passing_sends(
 {
     let many = read_text::byte_at(sends, 0);
     let mut marks = [1u8; Store::MEMBERS];
+    if many == 0 {
+        return marks;
+    }
+    let all = held_by_all(store, rows, chans);
     let mut i = 0;
     while i < many {
         i += 1;
         let s = read_text::byte_at(sends, i as usize);
-        let pass = send_passes(store, rows, chans, given, s) as u8;
+        let pass = send_passes(store, rows, chans, &all, given, s) as u8;
         let j = s as usize + 1;
         marks[j] = pass;
     }

@@ -18,24 +18,14 @@ ghost use Rattle.format.specs.Limits.{rowLimit};
 ghost use Rattle.calls.specs.Layout.{storeSize};
 ghost use Rattle.store.specs.Rows.{storeProgram, rowOr};
 ghost use Rattle.tables.specs.Tables.{storeFlow, storeComm};
-ghost use Rattle.row_lists.specs.Lists.{Lists, ofKind, chanKind};
 ghost use Rattle.sets.specs.Sets.{Sized};
 ghost use Rattle.channel_asks.specs.Channels.{Sends};
 ghost use Rattle.asks.specs.Asks.{Names};
 
 // Whether row r keeps the rule of its form; a result has none.
-fn keeps_row(
-    store: &[u8],
-    rows: u8,
-    r: u8,
-    names: &[u8],
-    chans: &[u8],
-    with: &[u8],
-    without: &[u8],
-) -> bool
+fn keeps_row(store: &[u8], rows: u8, r: u8, names: &[u8], with: &[u8], without: &[u8]) -> bool
     requires { ⌜ Sized rows (now store) ⌝ }
     requires { ⌜ Names (storeProgram rows (now store)) (now names) ⌝ }
-    requires { ⌜ Lists rows (ofKind (now store) chanKind) (now chans) ⌝ }
     requires { ⌜ Sends rows (now store) true (now with) ⌝ }
     requires { ⌜ Sends rows (now store) false (now without) ⌝ }
     ensures { λ b. ⌜ (let bytes = now (store .entry) in b ≡ keepsAt (storeProgram rows bytes) (storeFlow bytes) (storeComm bytes) r) ⌝ }
@@ -44,7 +34,7 @@ fn keeps_row(
         return true;
     };
     let form = b.form;
-    keeps_form(store, rows, r, b.name, form, names, chans, with, without)
+    keeps_form(store, rows, r, b.name, form, names, with, without)
 }
 
 // The smallest row whose flow rule fails, or NO_ROW. What a sync asks of a send row depends on the sync only by unit in its set, so the
@@ -61,7 +51,7 @@ pub fn failing_row(store: &[u8], rows: u8) -> u8
     let without = passing_sends(store, rows, &chans, &sends, false);
     let mut r = 0;
     while r < rows {
-        if keeps_row(store, rows, r, &names, &chans, &with, &without) {
+        if keeps_row(store, rows, r, &names, &with, &without) {
             r += 1;
         } else {
             return r;

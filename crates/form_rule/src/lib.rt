@@ -11,7 +11,6 @@ ghost use mathlib.Core.Path.{_≡_};
 ghost use Rattle.program.specs.Flow.{row, keepsForm};
 ghost use Rattle.store.specs.Rows.{storeProgram};
 ghost use Rattle.tables.specs.Tables.{storeFlow, storeComm};
-ghost use Rattle.row_lists.specs.Lists.{Lists, ofKind, chanKind};
 ghost use Rattle.sets.specs.Sets.{Sized};
 ghost use Rattle.channel_asks.specs.Channels.{Sends};
 ghost use Rattle.asks.specs.Asks.{Names};
@@ -35,13 +34,11 @@ pub fn keeps_form(
     n: u8,
     form: Form,
     names: &[u8],
-    chans: &[u8],
     with: &[u8],
     without: &[u8],
 ) -> bool
     requires { ⌜ Sized rows (now store) ⌝ }
     requires { ⌜ Names (storeProgram rows (now store)) (now names) ⌝ }
-    requires { ⌜ Lists rows (ofKind (now store) chanKind) (now chans) ⌝ }
     requires { ⌜ Sends rows (now store) true (now with) ⌝ }
     requires { ⌜ Sends rows (now store) false (now without) ⌝ }
     ensures { λ b. ⌜ (let bytes = now (store .entry) in b ≡ keepsForm (storeProgram rows bytes) (storeFlow bytes) (storeComm bytes) r n form) ⌝ }
@@ -55,7 +52,7 @@ pub fn keeps_form(
             body: _,
         } => keeps_fun(store, rows, r, n, own),
         Form::Spawn { child: _ } => has_unit(to),
-        Form::Sync { event } => keeps_sync(store, rows, n, event, names, chans, with, without),
+        Form::Sync { event } => keeps_sync(store, rows, n, event, with, without),
         Form::First { pair } => each_passes(store, rows, Ask::First, names, pair, to),
         Form::Second { pair } => each_passes(store, rows, Ask::Second, names, pair, to),
         Form::Case {

@@ -1,3 +1,2 @@
--- Laws about the definitions of specs/.
-pub mod Gathering
+-- Laws about what is added of receives.
 pub mod Receiving

@@ -20,8 +20,8 @@ use Rattle.store.specs.Rows.{storeProgram}
 use Rattle.forms.specs.Forms.{formIn}
 use Rattle.set_adds.specs.Adding.{Adds}
 use Rattle.set_adds.proofs.Adding.{adds-none, adds-as, adds-after}
-use Rattle.recv_adds.specs.Received.{recvsRule}
-use Rattle.recv_adds.proofs.Receiving.{sync-parts}
+use Rattle.received.specs.Received.{recvsRule}
+use Rattle.received.proofs.Receiving.{sync-parts}
 use Rattle.send_adds.specs.Sends.{Ready, sentRule, sendRowRule}
 use Rattle.send_adds.proofs.Sending.{Low, first-low, second-low}
 use Rattle.rule_adds.specs.declared.Ask.{Ask}

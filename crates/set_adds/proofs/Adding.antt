@@ -23,10 +23,10 @@ use Rattle.store.specs.Rows.{storeRow, storeProgram, cellsAt}
 use Rattle.store.proofs.Laws.{row-cells}
 use Rattle.tables.specs.Tables.{storeFlow, storeComm}
 use Rattle.sets.specs.Sets.{liesBelow, setOf}
-use Rattle.sets.proofs.Members.{lies-at, set-full}
+use Rattle.sets.proofs.Members.{lies-at, lies-below-iff, set-full}
 use Rattle.set_adds.specs.declared.Variable.{Variable}
 use Rattle.set_adds.specs.Adding.{setAt, positionOf, numberOf, joined, Flags, Inside, Rule, Adds, Copied, Joined}
-use Rattle.set_adds.proofs.Variables.{Has, has-iff, apart, behind-rows, before-claims, inside-iff, lies-below-iff}
+use Rattle.set_adds.proofs.Variables.{Has, has-iff, apart, behind-rows, before-claims, inside-iff}
 use Rattle.set_adds.proofs.Joining.{zeros-fall}
 
 -- ---- a set joined to another

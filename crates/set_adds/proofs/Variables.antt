@@ -2,20 +2,18 @@
 use Prim.Native.Nat.{ℕ, _+_, _<_, _≤_}
 use native.Mathlib.Omega.{arith}
 use native.Mathlib.Decide.{decLt}
-use mathlib.Core.Bool.{_&&_, So, false≢true}
+use mathlib.Core.Bool.{So, false≢true}
 use mathlib.Core.Path.{_≡_, ap}
 use mathlib.Core.Logic.{_↔_}
 use lib.Dec.{ltb, leb}
 use borrow.Author.Tests.{lt-ltb, ltb-true, lt-leb, le-leb}
-use Rattle.program.specs.Test.{pick, _⇒_, all}
-use Rattle.program.specs.Flow.{Abstract, u, row, Set, Table}
-use Rattle.program.proofs.Test.{and-left, and-right, and-intro, all-elim, all-intro, implies-elim, implies-intro}
+use Rattle.program.specs.Test.{pick}
+use Rattle.program.specs.Flow.{Abstract, Table}
 use Rattle.format.specs.Limits.{rowLimit}
 use Rattle.format.specs.Text.{Bytes, byteAt}
 use Rattle.format.specs.Document.{member}
 use Rattle.calls.specs.Layout.{memberLimit, rowsSize, flowAt, commAt, claimsStart}
 use Rattle.tables.specs.Tables.{flagAt, flowFlag, commFlag, storeFlow, storeComm}
-use Rattle.sets.specs.Sets.{liesBelow}
 use Rattle.set_adds.specs.declared.Variable.{Variable}
 use Rattle.set_adds.specs.Adding.{setAt, positionOf, numberOf, Inside}
 
@@ -81,13 +79,3 @@ inside-iff flow comm s = (there, λ h. (λ n a t. h (Variable.Name n) a (has-iff
         → So (setAt p flow comm a)
     there (f, c) (Variable.Name n) a h = unfold setAt in f n a (has-iff s (Variable.Name n) a .1 h)
     there (f, c) (Variable.Channel n) a h = unfold setAt in c n a (has-iff s (Variable.Channel n) a .1 h)
-
--- ---- one set in another, of the first members
-
-pub lies-below-iff : (n : ℕ) (s t : Set) → So (liesBelow n s t) ↔ ((a : Abstract) → member a < n + 1 → So (s a) → So (t a))
-unfolding liesBelow member
-lies-below-iff n s t = (there, λ h. and-intro (implies-intro (s u) (h u (omega arith))) (all-intro n _ (λ r l. implies-intro (s (row r)) (h (row r) (omega arith)))))
-  where
-    there : So ((s u ⇒ t u) && all n (λ r. s (row r) ⇒ t (row r))) → (a : Abstract) → member a < n + 1 → So (s a) → So (t a)
-    there h u l k = implies-elim (t u) (and-left _ _ h) k
-    there h (row r) l k = implies-elim (t (row r)) (all-elim n (λ r. s (row r) ⇒ t (row r)) (and-right (s u ⇒ t u) _ h) r (unfold member in omega arith)) k

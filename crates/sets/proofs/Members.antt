@@ -6,12 +6,13 @@ use native.Mathlib.Numerals.{add-one}
 use mathlib.Core.Bool.{Bool, true, false, _&&_, So}
 use mathlib.Core.List.{[]}
 use mathlib.Core.Path.{_≡_, _∙_, fun-ext}
+use mathlib.Core.Logic.{_↔_}
 use lib.ListN.{length, getD, take, drop, length-take, length-drop, List·getD-eq-default}
 use lib.Seq.{getD-take, getD-drop}
 use lib.Dec.{ltb, leb, eqb}
 use borrow.Author.Tests.{lt-ltb, le-leb, lt-leb, ne-eqb}
-use Rattle.program.specs.Test.{pick, _⇒_}
-use Rattle.program.specs.Flow.{u, Set, forEach, lies}
+use Rattle.program.specs.Test.{pick, _⇒_, all}
+use Rattle.program.specs.Flow.{Abstract, u, row, Set, forEach, lies}
 use Rattle.format.specs.Limits.{rowLimit}
 use Rattle.format.specs.Text.{Bytes, byteAt}
 use Rattle.format.specs.Document.{member}
@@ -20,7 +21,7 @@ use Rattle.store.specs.Rows.{storeProgram}
 use Rattle.store.proofs.Laws.{program-length}
 use Rattle.tables.specs.Tables.{flagAt, flowFlag, commFlag, storeFlow, storeComm}
 use Rattle.sets.specs.Sets.{setOf, partAt, within, unlessIn, liesBelow, PassingSet}
-use Rattle.program.proofs.Test.{all-same, all-elim, all-intro}
+use Rattle.program.proofs.Test.{and-left, and-right, and-intro, all-same, all-elim, all-intro, implies-elim, implies-intro}
 use Rattle.sets.proofs.Tests.{implies-true, all-true, all-shift}
 
 -- ---- the bytes of two sets
@@ -105,3 +106,13 @@ unfolding lies forEach member
 marks-lies n s f marks a m =
     rw (set-full marks (m .size), lt-ltb 0 _ (m .unit), implies-true (a u))
     (all-same _ _ _ λ i l. let q = m .rows i (rw (program-length n s) at l) in rw (← (add-one i), q))
+
+-- ---- one set in another, of the first members
+
+pub lies-below-iff : (n : ℕ) (s t : Set) → So (liesBelow n s t) ↔ ((a : Abstract) → member a < n + 1 → So (s a) → So (t a))
+unfolding liesBelow member
+lies-below-iff n s t = (there, λ h. and-intro (implies-intro (s u) (h u (omega arith))) (all-intro n _ (λ r l. implies-intro (s (row r)) (h (row r) (omega arith)))))
+  where
+    there : So ((s u ⇒ t u) && all n (λ r. s (row r) ⇒ t (row r))) → (a : Abstract) → member a < n + 1 → So (s a) → So (t a)
+    there h u l k = implies-elim (t u) (and-left _ _ h) k
+    there h (row r) l k = implies-elim (t (row r)) (all-elim n (λ r. s (row r) ⇒ t (row r)) (and-right (s u ⇒ t u) _ h) r (unfold member in omega arith)) k

@@ -42,3 +42,9 @@ pub record PassingSet (n : ℕ) (f : ℕ → Bool) (s : Bytes) : Type 0 where
   pub size : memberLimit ≤ length s
   pub unit : 0 < byteAt s 0
   pub rows : (r : ℕ) → r < n → ltb 0 (byteAt s (r + 1)) ≡ f r
+
+-- of the bytes of s the first n are joined with those of another by f, and the rest is kept
+pub record Bytewise (f : ℕ → ℕ → ℕ) (n : ℕ) (other s s′ : Bytes) : Type 0 where
+  pub size : length s′ ≡ length s
+  pub done : (i : ℕ) → i < n → byteAt s′ i ≡ f (byteAt s i) (byteAt other i)
+  pub behind : (i : ℕ) → n ≤ i → byteAt s′ i ≡ byteAt s i

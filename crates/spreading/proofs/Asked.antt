@@ -13,8 +13,8 @@ use Rattle.format.specs.Text.{Bytes}
 use Rattle.store.specs.Rows.{storeProgram}
 use Rattle.store.proofs.Laws.{program-length}
 use Rattle.set_adds.specs.Adding.{Adds}
-use Rattle.recv_adds.specs.Received.{recvsRule}
-use Rattle.recv_adds.proofs.Receiving.{sync-parts}
+use Rattle.received.specs.Received.{recvsRule}
+use Rattle.received.proofs.Receiving.{sync-parts}
 use Rattle.send_adds.specs.Sends.{sentRule, sendRowRule}
 use Rattle.rule_adds.specs.declared.Ask.{Ask}
 use Rattle.rule_adds.specs.Rules.{askRule, memberRule}

@@ -1,20 +1,17 @@
 // The flow rule of a sync over the sets of a store: what it asks of the send rows and of the recv rows in the set of its event.
-use asks::Ask;
-use asks::each_passes;
-use channel_asks::Demand;
-use channel_asks::passing;
 use members::has_unit;
+use received::heard;
+use received::held;
 use sets::flow_lies;
 use sets::flow_set;
+use sets::lies_in;
 ghost use mathlib.Core.Bool.{true, false};
 ghost use mathlib.Core.Path.{_≡_};
 ghost use Rattle.program.specs.Flow.{forEach};
 ghost use Rattle.store.specs.Rows.{storeProgram};
 ghost use Rattle.tables.specs.Tables.{storeFlow, storeComm};
-ghost use Rattle.row_lists.specs.Lists.{Lists, ofKind, chanKind};
 ghost use Rattle.sets.specs.Sets.{Sized};
 ghost use Rattle.channel_asks.specs.Channels.{Sends, sendTest};
-ghost use Rattle.asks.specs.Asks.{Names};
 ghost use Rattle.sync_rule.specs.Rules.{syncTest};
 
 // Whether each send row in the set of name e passes a sync, by the sets of those that pass one with unit in its set and one without.
@@ -30,20 +27,9 @@ fn sends_pass(store: &[u8], rows: u8, e: u8, given: bool, with: &[u8], without: 
     flow_lies(store, rows, e, without)
 }
 
-// Whether each row in the set of name e passes a sync whose bind has the name n.
-pub fn keeps_sync(
-    store: &[u8],
-    rows: u8,
-    n: u8,
-    e: u8,
-    names: &[u8],
-    chans: &[u8],
-    with: &[u8],
-    without: &[u8],
-) -> bool
+// Whether each row in the set of name e passes a sync whose bind has the name n: its send rows, and then all that it may receive at once.
+pub fn keeps_sync(store: &[u8], rows: u8, n: u8, e: u8, with: &[u8], without: &[u8]) -> bool
     requires { ⌜ Sized rows (now store) ⌝ }
-    requires { ⌜ Names (storeProgram rows (now store)) (now names) ⌝ }
-    requires { ⌜ Lists rows (ofKind (now store) chanKind) (now chans) ⌝ }
     requires { ⌜ Sends rows (now store) true (now with) ⌝ }
     requires { ⌜ Sends rows (now store) false (now without) ⌝ }
     ensures { λ b. ⌜ (let bytes = now (store .entry) in b ≡ syncTest (storeProgram rows bytes) (storeFlow bytes) (storeComm bytes) (storeFlow bytes n) e) ⌝ }
@@ -51,8 +37,9 @@ pub fn keeps_sync(
     let to = flow_set(store, n);
     let given = has_unit(to);
     if sends_pass(store, rows, e, given, with, without) {
-        let marks = passing(store, rows, chans, Demand::Within, to);
-        return each_passes(store, rows, Ask::Recv, names, e, &marks);
+        let channels = heard(store, rows, e);
+        let values = held(store, rows, &channels);
+        return lies_in(&values, to, rows);
     }
     false
 }

@@ -1,9 +1,9 @@
--- `send_passes` meets its contract: the channels of a send row pass exactly if its channel set lies in the set of those that pass.
-use mathlib.Core.Path.{_∙_}
-use Rattle.program.specs.Maybe.{when}
-use Rattle.channel_asks.specs.Channels.{sendTest}
+-- `send_passes` meets its contract: the channels of a send row hold its message if every channel does, else they are gone through.
+use Rattle.channel_asks.proofs.Channels.{sure}
 use Rattle.forms.proofs.Forms.{kinds, but, send-at, no-send}
-use Rattle.channel_asks.proofs.Channels.{sent}
+use Rattle.channel_asks.specs.Channels.{sendTest}
+use Rattle.program.specs.Maybe.{when}
+use mathlib.Core.Path.{sym, _∙_}
 use borrow.Author.Needs.{needs}
 use Rattle.channel_asks.proofs.send_passes.Statement.{statement}
 use Rattle.channel_asks.proofs.send_passes.Tie as tie
@@ -21,22 +21,22 @@ returns c = rw (send-at _ _ (c .before .form-at .ensures), no-send (but 2 kinds)
 flow-set-requires : tie.Need-flow-set-requires
 flow-set-requires c κs = search needs
 
-send-demand-requires : tie.Need-send-demand-requires
-send-demand-requires c κs = search needs
-
-passing-requires : tie.Need-passing-requires
-passing-requires c κs = search needs
-
-slice-aggregate-flow-lies : tie.Need-slice-aggregate-flow-lies
-slice-aggregate-flow-lies c = search needs
-
-flow-lies-requires : tie.Need-flow-lies-requires
-flow-lies-requires c κs = search needs
+lies-in-requires : tie.Need-lies-in-requires
+lies-in-requires c κs = search needs
 
 returns-2 : tie.Need-returns-2
 unfolding sendTest when
-returns-2 c = rw (send-at _ _ (c .before .before .before .before .before .before .before .before .form-at .ensures), c .before .before .before .before .before .before .channel .given .1)
-    (c .flow-lies .ensures ∙ sent _ _ _ _ _ _ _ _ (c .before .before .before .before .flow-set .ensures) (c .before .before .before .send-demand .ensures) (c .before .before .passing .ensures))
+returns-2 c = rw (send-at _ _ (c .before .before .before .before .before .before .before .form-at .ensures), c .before .before .before .before .before .channel .given .1, c .before .before .if1 .taken) (sym (sure _ _ _ _ _ (c .before .before .before .before .before .before .before .before .before .before .before .pre .0 .few) (c .before .before .before .before .before .before .before .before .before .before .before .pre .1 .0) (c .before .before .before .before .before .before .before .before .before .before .before .pre .1 .1) (rw (c .before .before .before .flow-set .ensures) at (sym (c .before .lies-in .ensures) ∙ c .if2 .taken))))
+
+flow-set-requires-2 : tie.Need-flow-set-requires-2
+flow-set-requires-2 c κs = search needs
+
+chans-hold-requires : tie.Need-chans-hold-requires
+chans-hold-requires c κs = search needs
+
+returns-3 : tie.Need-returns-3
+unfolding sendTest when
+returns-3 c = rw (send-at _ _ (c .before .before .before .before .before .before .before .form-at .ensures), c .before .before .before .before .before .channel .given .1, ← (c .before .before .before .flow-set .ensures), ← (c .before .flow-set2 .ensures)) (c .chans-hold .ensures)
 
 pub send-passes-spec : {M : Type 1} → statement M
 send-passes-spec =
@@ -46,8 +46,8 @@ send-passes-spec =
     enum-known-channel
     returns
     flow-set-requires
-    send-demand-requires
-    passing-requires
-    slice-aggregate-flow-lies
-    flow-lies-requires
-    returns-2)
+    lies-in-requires
+    returns-2
+    flow-set-requires-2
+    chans-hold-requires
+    returns-3)

@@ -13,11 +13,11 @@ use Rattle.flow.proofs.failing_row.Statement.{statement}
 use Rattle.flow.proofs.failing_row.Tie as tie
 
 abbrev Inv-loop : tie.InvT-loop
-Inv-loop store rows names chans with without r₀ r =
+Inv-loop store rows names with without r₀ r =
     (r ≤ rows) × ((j : ℕ) → j < r → keepsAt (storeProgram rows store) (storeFlow store) (storeComm store) j ≡ true)
 
 abbrev μ-loop : tie.MeasureT-loop
-μ-loop store rows names chans with without r₀ r = rows - r
+μ-loop store rows names with without r₀ r = rows - r
 
 result-names-requires : tie.Need-result-names-requires Inv-loop μ-loop
 result-names-requires c κs = search needs
@@ -58,11 +58,8 @@ slice-aggregate-keeps-row-2 c = search needs
 slice-aggregate-keeps-row-3 : tie.Need-slice-aggregate-keeps-row-3 Inv-loop μ-loop
 slice-aggregate-keeps-row-3 c = search needs
 
-slice-aggregate-keeps-row-4 : tie.Need-slice-aggregate-keeps-row-4 Inv-loop μ-loop
-slice-aggregate-keeps-row-4 c = search needs
-
 keeps-row-requires : tie.Need-keeps-row-requires Inv-loop μ-loop
-keeps-row-requires c κs = (record { size = c .before .before .before .before .before .before .before .before .before .before .before .before .before .before .before .before .pre .0; few = c .before .before .before .before .before .before .before .before .before .before .before .before .before .before .before .before .pre .1 }, (c .before .before .before .before .before .before .before .before .before .before .before .before .before .before .result-names .ensures, (c .before .before .before .before .before .before .before .before .before .before .before .before .before .rows-of-kind .ensures, (c .before .before .before .before .before .before .before .before .before .passing-sends .ensures, c .before .before .before .before .before .before .passing-sends2 .ensures))))
+keeps-row-requires c κs = (record { size = c .before .before .before .before .before .before .before .before .before .before .before .before .before .before .before .pre .0; few = c .before .before .before .before .before .before .before .before .before .before .before .before .before .before .before .pre .1 }, (c .before .before .before .before .before .before .before .before .before .before .before .before .before .result-names .ensures, (c .before .before .before .before .before .before .before .before .passing-sends .ensures, c .before .before .before .before .before .passing-sends2 .ensures)))
 
 add-r : tie.Need-add-r Inv-loop μ-loop
 add-r c = search needs
@@ -71,10 +68,10 @@ loop-less : tie.Need-loop-less Inv-loop μ-loop
 loop-less c = search needs
 
 loop-again : tie.Need-loop-again Inv-loop μ-loop
-loop-again c = (omega arith, below-more _ _ (c .before .before .before .before .before .before .before .loop .inv .1) (sym (c .before .keeps-row .ensures) ∙ c .if1 .taken))
+loop-again c = (omega arith, below-more _ _ (c .before .before .before .before .before .before .loop .inv .1) (sym (c .before .keeps-row .ensures) ∙ c .if1 .taken))
 
 returns : tie.Need-returns Inv-loop μ-loop
-returns c = first-fails _ _ _ (c .before .before .before .before .before .before .before .loop .inv .1) (c .before .before .before .before .before .before .loop-test .taken) (sym (c .before .keeps-row .ensures) ∙ c .if1 .left)
+returns c = first-fails _ _ _ (c .before .before .before .before .before .before .loop .inv .1) (c .before .before .before .before .before .loop-test .taken) (sym (c .before .keeps-row .ensures) ∙ c .if1 .left)
 
 returns-2 : tie.Need-returns-2 Inv-loop μ-loop
 returns-2 c = none-fails _ _ _ (c .before .loop .inv .1) (c .before .loop .inv .0) (c .loop-test .left)
@@ -98,7 +95,6 @@ failing-row-spec =
     slice-aggregate-keeps-row
     slice-aggregate-keeps-row-2
     slice-aggregate-keeps-row-3
-    slice-aggregate-keeps-row-4
     keeps-row-requires
     add-r
     loop-less

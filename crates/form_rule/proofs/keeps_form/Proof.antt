@@ -101,7 +101,7 @@ returns-6 c = rw (c .before .before .form4 .given .1) (c .each-passes2 .ensures 
 
 returns-7 : tie.Need-returns-7
 unfolding keepsForm asks Names
-returns-7 c = let names = c .before .before .before .before .before .before .before .before .before .before .before .before .pre .1 .0 in
+returns-7 c = let names = c .before .before .before .before .before .before .before .before .before .before .before .pre .1 .0 in
     rw (c .before .before .before .before .form5 .given .1)
     (c .each-passes3 .ensures ∙ rw (c .before .before .before .before .before .before .flow-set .ensures, c .before .before .byte-at .ensures ∙ names _, c .before .byte-at2 .ensures ∙ names _))
 

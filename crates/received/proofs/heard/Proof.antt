@@ -6,11 +6,11 @@ use borrow.Author.Needs.{needs}
 use Rattle.program.specs.Flow.{row, Set}
 use Rattle.store.specs.Rows.{storeProgram}
 use Rattle.tables.specs.Tables.{storeFlow}
-use Rattle.recv_adds.specs.Received.{Gathered, hears}
-use Rattle.recv_adds.proofs.Gathering.{gathered-none, gathered-more, gathered-block, free-row}
-use Rattle.recv_adds.proofs.Receiving.{hears-other}
-use Rattle.recv_adds.proofs.heard.Statement.{statement}
-use Rattle.recv_adds.proofs.heard.Tie as tie
+use Rattle.received.specs.Received.{Gathered, hears}
+use Rattle.received.proofs.Gathering.{gathered-none, gathered-more, gathered-block, free-row}
+use Rattle.received.proofs.Receiving.{hears-other}
+use Rattle.received.proofs.heard.Statement.{statement}
+use Rattle.received.proofs.heard.Tie as tie
 
 abbrev Inv-loop : tie.InvT-loop
 Inv-loop store rows e events set₀ k₀ set k =

@@ -3,10 +3,10 @@ use mathlib.Core.Path.{sym, ap, _∙_}
 use borrow.Author.Needs.{needs}
 use Rattle.program.specs.Flow.{Set}
 use Rattle.forms.proofs.Forms.{no-recv, kinds, but}
-use Rattle.recv_adds.proofs.Gathering.{takes-none, takes-as}
-use Rattle.recv_adds.proofs.Receiving.{hears-none, hears-recv, hears-other}
-use Rattle.recv_adds.proofs.hear_row.Statement.{statement}
-use Rattle.recv_adds.proofs.hear_row.Tie as tie
+use Rattle.received.proofs.Gathering.{takes-none, takes-as}
+use Rattle.received.proofs.Receiving.{hears-none, hears-recv, hears-other}
+use Rattle.received.proofs.hear_row.Statement.{statement}
+use Rattle.received.proofs.hear_row.Tie as tie
 
 flow-has-requires : tie.Need-flow-has-requires
 flow-has-requires c κs = search needs

@@ -1,6 +1,6 @@
 -- The channels that receives listen to and what they hold, each gathered in one set of bytes; and the rule of a sync's receives.
 use Prim.Native.Nat.{ℕ, _+_, _<_, _≤_}
-use mathlib.Core.Bool.{_&&_, _||_}
+use mathlib.Core.Bool.{Bool, _&&_, _||_}
 use mathlib.Core.Path.{_≡_}
 use lib.ListN.{length}
 use Rattle.program.specs.Maybe.{when, has}
@@ -11,7 +11,6 @@ use Rattle.format.specs.Text.{Bytes, byteAt}
 use Rattle.format.specs.Document.{member}
 use Rattle.calls.specs.Layout.{memberLimit}
 use Rattle.sets.specs.Sets.{setOf}
-use Rattle.set_adds.specs.Adding.{Rule}
 
 -- s′ is the set of bytes s with the members of t
 pub record Takes (t : Set) (s s′ : Bytes) : Type 0 where
@@ -38,5 +37,5 @@ unfoldable pub gives : Program → Table → Set → ℕ → Set
 gives p comm t k a = t (row k) && (chanRow p k && comm k a)
 
 -- what a sync whose bind has the name n asks of the recv rows in the set of name e
-unfoldable pub recvsRule : Program → ℕ → ℕ → Rule
+unfoldable pub recvsRule : Program → ℕ → ℕ → Table → Table → Bool
 recvsRule p n e flow comm = forEach p (flow e) λ s. when (recvAt p s) λ c. forEachChan p (flow c) λ k. lies p (comm k) (flow n)

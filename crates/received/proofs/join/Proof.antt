@@ -5,13 +5,15 @@ use mathlib.Core.Path.{_≡_, refl}
 use lib.ListN.{length, length-set}
 use borrow.Author.Needs.{needs}
 use Rattle.calls.specs.Layout.{memberLimit}
-use Rattle.recv_adds.proofs.Gathering.{takes-short, TakenTo, taken-none, taken-more, taken-all}
-use Rattle.recv_adds.proofs.join.Statement.{statement}
-use Rattle.recv_adds.proofs.join.Tie as tie
+use Rattle.sets.specs.Sets.{Bytewise}
+use Rattle.sets.proofs.Bytewise.{bytewise-none, bytewise-more}
+use Rattle.received.proofs.Gathering.{takes-short, joined, taken-all}
+use Rattle.received.proofs.join.Statement.{statement}
+use Rattle.received.proofs.join.Tie as tie
 
 abbrev Inv-loop : tie.InvT-loop
 Inv-loop set₀ other i₀ set i =
-    (i ≤ memberLimit) × (length set ≡ length set₀) × TakenTo i other set₀ set
+    (i ≤ memberLimit) × (length set ≡ length set₀) × Bytewise joined i other set₀ set
 
 abbrev μ-loop : tie.MeasureT-loop
 μ-loop set₀ other i₀ set i = memberLimit - i
@@ -20,7 +22,7 @@ returns : tie.Need-returns Inv-loop μ-loop
 returns c = takes-short _ _ (c .if1 .taken)
 
 loop-holds : tie.Need-loop-holds Inv-loop μ-loop
-loop-holds c = (omega arith, refl, taken-none _ _)
+loop-holds c = (omega arith, refl, bytewise-none _ _ _)
 
 shared-slice-read-smaller : tie.Need-shared-slice-read-smaller Inv-loop μ-loop
 shared-slice-read-smaller c = search needs
@@ -46,7 +48,7 @@ loop-less c = search needs
 loop-again : tie.Need-loop-again Inv-loop μ-loop
 loop-again c =
     let at-loop = c .before .before .before .before .before in
-    (omega arith, simp length-set (at-loop .loop .inv .1), rw (c .larger .ensures, c .before .before .smaller .ensures) (taken-more (at-loop .loop .inv .2) (omega arith)))
+    (omega arith, simp length-set (at-loop .loop .inv .1), rw (c .larger .ensures, c .before .before .smaller .ensures) (bytewise-more _ (at-loop .loop .inv .2) (omega arith)))
 
 same-length : tie.Need-same-length Inv-loop μ-loop
 same-length c = c .before .loop .inv .1

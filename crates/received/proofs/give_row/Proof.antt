@@ -4,10 +4,10 @@ use borrow.Author.Needs.{needs}
 use borrow.Author.Tests.{lt-ltb, le-ltb}
 use Rattle.program.specs.Flow.{Set}
 use Rattle.forms.proofs.Forms.{no-chan, kinds, but}
-use Rattle.recv_adds.proofs.Gathering.{takes-none, takes-as}
-use Rattle.recv_adds.proofs.Receiving.{gives-none, gives-chan, gives-other, among}
-use Rattle.recv_adds.proofs.give_row.Statement.{statement}
-use Rattle.recv_adds.proofs.give_row.Tie as tie
+use Rattle.received.proofs.Gathering.{takes-none, takes-as}
+use Rattle.received.proofs.Receiving.{gives-none, gives-chan, gives-other, among}
+use Rattle.received.proofs.give_row.Statement.{statement}
+use Rattle.received.proofs.give_row.Tie as tie
 
 add-byte-at : tie.Need-add-byte-at
 add-byte-at c = search needs

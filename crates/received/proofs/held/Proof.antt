@@ -6,11 +6,11 @@ use borrow.Author.Needs.{needs}
 use Rattle.store.specs.Rows.{storeProgram}
 use Rattle.tables.specs.Tables.{storeComm}
 use Rattle.sets.specs.Sets.{setOf}
-use Rattle.recv_adds.specs.Received.{Gathered, gives}
-use Rattle.recv_adds.proofs.Gathering.{gathered-none, gathered-more, gathered-block, free-row}
-use Rattle.recv_adds.proofs.Receiving.{gives-other}
-use Rattle.recv_adds.proofs.held.Statement.{statement}
-use Rattle.recv_adds.proofs.held.Tie as tie
+use Rattle.received.specs.Received.{Gathered, gives}
+use Rattle.received.proofs.Gathering.{gathered-none, gathered-more, gathered-block, free-row}
+use Rattle.received.proofs.Receiving.{gives-other}
+use Rattle.received.proofs.held.Statement.{statement}
+use Rattle.received.proofs.held.Tie as tie
 
 abbrev Inv-loop : tie.InvT-loop
 Inv-loop store rows channels set₀ k₀ set k =

@@ -5,10 +5,10 @@ use mathlib.Core.Bool.{false≢true}
 use mathlib.Core.Path.{_≡_}
 use borrow.Author.Needs.{needs}
 use borrow.Author.Tests.{eqb-true}
-use Rattle.recv_adds.specs.Received.{Free}
-use Rattle.recv_adds.proofs.Gathering.{free-none, free-more}
-use Rattle.recv_adds.proofs.block_free.Statement.{statement}
-use Rattle.recv_adds.proofs.block_free.Tie as tie
+use Rattle.received.specs.Received.{Free}
+use Rattle.received.proofs.Gathering.{free-none, free-more}
+use Rattle.received.proofs.block_free.Statement.{statement}
+use Rattle.received.proofs.block_free.Tie as tie
 
 abbrev Inv-loop : tie.InvT-loop
 Inv-loop set k from rows found₀ i₀ found i =
