@@ -30,7 +30,7 @@ use Rattle.write_store.proofs.Parts.{document-parts, partsText, stored-
 
 -- ---- rows
 
-form-parts : (f : Form) → (length (ascii (formWord f)) ≤ 7) × (length (formNumbers f) ≤ 5)
+pub form-parts : (f : Form) → (length (ascii (formWord f)) ≤ 7) × (length (formNumbers f) ≤ 5)
 unfolding ascii formWord formNumbers
 form-parts Form.Unit = (omega arith, omega arith)
 form-parts Chan = (omega arith, omega arith)
@@ -47,7 +47,7 @@ form-parts (Second a) = (omega arith, omega arith)
 form-parts (Case s l t r w) = (omega arith, omega arith)
 form-parts (Apply f a) = (omega arith, omega arith)
 
-row-length : (x : Row) → length (rowText x) ≤ 80
+pub row-length : (x : Row) → length (rowText x) ≤ 80
 unfolding rowText formText ascii
 row-length (Row.Result n) = simp length-append (omega (arith, argument-length n))
 row-length (Row.Bind b) =
@@ -58,7 +58,7 @@ row-line-length : (r : ℕ) (x : Row) → length (lineText (row r x)) ≤ 100
 unfolding lineText ascii
 row-line-length r x = simp length-append (omega (arith, argument-length r, row-length x))
 
-rows-length : (r : ℕ) (xs : Program) → length (collect lineText (rowLines r xs)) ≤ 100 * length xs
+pub rows-length : (r : ℕ) (xs : Program) → length (collect lineText (rowLines r xs)) ≤ 100 * length xs
 unfolding collect rowLines
 rows-length r [] = omega arith
 rows-length r (x ∷ xs) = simp length-append (omega (arith, row-line-length r x, rows-length (suc r) xs))
@@ -70,7 +70,7 @@ unfolding memberText ascii
 member-length zero = omega arith
 member-length (suc r) = digits-length r
 
-members-length : (ms : List ℕ) → length (membersText ms) ≤ 6 * length ms + 1
+pub members-length : (ms : List ℕ) → length (membersText ms) ≤ 6 * length ms + 1
 unfolding membersText ascii
 members-length [] = omega arith
 members-length (m ∷ ms) = simp length-append (omega (arith, member-length m, members-length ms))
@@ -80,7 +80,7 @@ unfolding setText ascii
 set-length [] = omega arith
 set-length (m ∷ ms) = simp length-append (omega (arith, member-length m, members-length ms))
 
-members-from-length : (m : ℕ) (bs : Bytes) → length (membersFrom m bs) ≤ length bs
+pub members-from-length : (m : ℕ) (bs : Bytes) → length (membersFrom m bs) ≤ length bs
 unfolding membersFrom
 members-from-length m [] = omega arith
 members-from-length m (b ∷ bs) =
@@ -93,7 +93,7 @@ module _ (word : Bytes) (short : length word ≤ 10) where
   entry-length n [] h = omega arith
   entry-length n (m ∷ ms) h = simp length-append (omega (arith, argument-length n, set-length (m ∷ ms)))
 
-  sets-length : (k n : ℕ) (bs : Bytes) → length (collect (entryText word) (decodeSets k n bs)) ≤ 1000 * k
+  pub sets-length : (k n : ℕ) (bs : Bytes) → length (collect (entryText word) (decodeSets k n bs)) ≤ 1000 * k
   unfolding collect decodeSets
   sets-length zero n bs = omega arith
   sets-length (suc k) n bs =
@@ -104,7 +104,7 @@ module _ (word : Bytes) (short : length word ≤ 10) where
 
 -- ---- claims
 
-word-length : (w : Word) → length (ascii (wordText w)) ≤ 10
+pub word-length : (w : Word) → length (ascii (wordText w)) ≤ 10
 unfolding ascii wordText
 word-length OneShot = omega arith
 word-length OneToOne = omega arith
@@ -117,7 +117,7 @@ claim-length : (k : Claim) → length (lineText (claim k)) ≤ 40
 unfolding lineText ascii
 claim-length k = simp length-append (omega (arith, argument-length (k .channel), word-length (k .word)))
 
-claims-length : (c : ℕ) (bs : Bytes) → length (claimsText (decodeClaims c bs)) ≤ 40 * length bs
+pub claims-length : (c : ℕ) (bs : Bytes) → length (claimsText (decodeClaims c bs)) ≤ 40 * length bs
 unfolding collect decodeClaims
 claims-length c [] = omega arith
 claims-length c (b ∷ bs) =

@@ -1,5 +1,6 @@
 // The text of the document in the store at the head of a slice, written into another, and its length.
 use store::Store;
+use text_lengths::store_length;
 use write_store::put_store;
 ghost use mathlib.Core.Path.{_≡_};
 ghost use Prim.Native.Nat.{_≤_};
@@ -17,11 +18,10 @@ pub fn put_document(out: &mut [u8], store: &[u8], rows: u8) -> usize
     put_store(out, &store[..Store::SIZE], rows)
 }
 
-// The length of that text: what writing it into no bytes at all passes.
+// The length of that text, counted.
 pub fn document_length(store: &[u8], rows: u8) -> usize
     requires { ⌜ storeSize ≤ length (now store) ⌝ }
     ensures { λ n. ⌜ n ≡ length (documentText (storeDocument rows (take storeSize (now (store .entry))))) ⌝ }
 {
-    let mut none = [0u8; 0];
-    put_document(&mut none, store, rows)
+    store_length(&store[..Store::SIZE], rows)
 }
