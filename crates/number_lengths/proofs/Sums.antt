@@ -10,6 +10,10 @@ pub record Counted (whole counted rest : ℕ) : Type 0 where
 pub start : {whole : ℕ} → Counted whole 0 whole
 start = record { sum = omega arith }
 
+-- the rest in other words
+pub same-rest : {whole total rest other : ℕ} → Counted whole total rest → rest ≡ other → Counted whole total other
+same-rest c e = record { sum = omega (arith, c .sum, e) }
+
 -- one part more
 pub onward : {whole total rest part n more : ℕ} → Counted whole total rest → rest ≡ part + more → n ≡ part → Counted whole (total + n) more
 onward c e k = record { sum = omega (arith, c .sum, k, e) }

@@ -2,7 +2,7 @@
 use Prim.Native.Nat.{ℕ, _+_, _-_, _*_, _<_, _≤_}
 use native.Mathlib.Omega.{arith}
 use mathlib.Core.List.{List, [], _∷_}
-use mathlib.Core.Path.{_≡_, refl}
+use mathlib.Core.Path.{_≡_, refl, ap}
 use lib.ListN.{length, take, drop, length-append}
 use Rattle.program.specs.Each.{collect}
 use Rattle.format.specs.Limits.{rowLimit}
@@ -10,7 +10,7 @@ use Rattle.format.specs.Text.{Bytes, ascii, argument}
 use Rattle.format.specs.Print.{memberText, membersText, setText}
 use Rattle.calls.specs.Layout.{memberLimit, membersFrom, withEntry, decodeSets}
 use Rattle.write_sets.specs.Texts.{entryText}
-use Rattle.write_sets.proofs.Parts.{sets-next, sets-end}
+use Rattle.write_sets.proofs.Parts.{sets-next, sets-skip, sets-end}
 use Rattle.write_store.proofs.Bounds.{members-length, members-from-length}
 
 some : (ms : List ℕ) → 0 < length (membersText ms)
@@ -46,6 +46,9 @@ module _ (word s : Bytes) where
       rw (sets-next (entryText word) rowLimit n s h)
       (length-append (collect (entryText word) (withEntry n (membersFrom 0 (take ((n * memberLimit + memberLimit) - n * memberLimit) (drop (n * memberLimit) s))) []))
       (collect (entryText word) (decodeSets (rowLimit - (n + 1)) (n + 1) (drop ((n + 1) * memberLimit) s))))
+
+  pub lines-skip : (n : ℕ) → n < rowLimit → membersFrom 0 (take memberLimit (drop (n * memberLimit) s)) ≡ [] → linesFrom n ≡ linesFrom (n + 1)
+  lines-skip n h e = ap length (sets-skip (entryText word) rowLimit n s h e)
 
   pub lines-end : (n : ℕ) → rowLimit ≤ n → linesFrom n ≡ 0
   lines-end n h = rw (sets-end (entryText word) rowLimit n s h)

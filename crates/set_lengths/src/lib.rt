@@ -10,6 +10,7 @@ ghost use Rattle.format.specs.Limits.{rowLimit};
 ghost use Rattle.format.specs.Print.{membersText};
 ghost use Rattle.calls.specs.Layout.{memberLimit, setsSize, membersFrom, withEntry, decodeSets};
 ghost use Rattle.write_sets.specs.Texts.{entryText};
+ghost use Rattle.write_sets.specs.Keys.{Keyed};
 ghost use Rattle.set_lengths.specs.Lengths.{isMember};
 
 // 1 if a byte marks a member.
@@ -62,15 +63,20 @@ fn set_line_length(word: &[u8], n: u8, flags: &[u8]) -> usize
     word.len() + key + members + 3
 }
 
-// The length of the lines of the sets of all names or channels; their bytes stand at the head of a slice.
-pub fn sets_length(word: &[u8], sets: &[u8]) -> usize
+// The length of the lines of the sets of all names or channels; their bytes stand at the head of a slice. Only the sets of marked keys are looked at.
+pub fn sets_length(word: &[u8], sets: &[u8], keys: &[u8]) -> usize
     requires { ⌜ length (now word) ≤ 10 ⌝ }
     requires { ⌜ setsSize ≤ length (now sets) ⌝ }
+    requires { ⌜ Keyed (now keys) (now sets) ⌝ }
     ensures { λ k. ⌜ k ≡ length (collect (entryText (now (word .entry))) (decodeSets rowLimit 0 (now (sets .entry)))) ⌝ }
 {
     let mut total = 0;
     let mut n = 0;
     while n < Store::ROWS {
+        if keys[n] == 0 {
+            n += 1;
+            continue;
+        }
         let from = n * Store::MEMBERS;
         let to = from + Store::MEMBERS;
         let key = n as u8;

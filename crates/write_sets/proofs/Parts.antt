@@ -2,7 +2,7 @@
 use Prim.Native.Nat.{ℕ, suc, _+_, _-_, _*_, _<_, _≤_}
 use mathlib.Core.Bool.{So}
 use mathlib.Core.List.{List, [], _∷_, _++_, append-nil}
-use mathlib.Core.Path.{_≡_, refl}
+use mathlib.Core.Path.{_≡_, refl, _∙_}
 use native.Mathlib.Numerals.{add-one}
 use native.Mathlib.Omega.{arith}
 use lib.ListN.{drop, take}
@@ -42,6 +42,14 @@ module _ (f : Entry → Bytes) (k n : ℕ) (s : Bytes) where
       let past : (n + 1) * memberLimit ≡ n * memberLimit + memberLimit = omega arith in
       rw (q, size, past, add-one n, ← (drop-drop memberLimit (n * memberLimit) s))
       (with-entry f n (membersFrom 0 (take memberLimit (drop (n * memberLimit) s))) (decodeSets (k - suc n) (suc n) (drop memberLimit (drop (n * memberLimit) s))))
+
+  -- a set without a member has no line
+  pub sets-skip : n < k → membersFrom 0 (take memberLimit (drop (n * memberLimit) s)) ≡ []
+      → collect f (decodeSets (k - n) n (drop (n * memberLimit) s)) ≡ collect f (decodeSets (k - (n + 1)) (n + 1) (drop ((n + 1) * memberLimit) s))
+  unfolding collect withEntry
+  sets-skip h e =
+      let size : (n * memberLimit + memberLimit) - n * memberLimit ≡ memberLimit = omega arith in
+      sets-next h ∙ rw (size, e)
 
   pub sets-end : k ≤ n → collect f (decodeSets (k - n) n (drop (n * memberLimit) s)) ≡ []
   unfolding decodeSets collect

@@ -11,6 +11,7 @@ ghost use Rattle.format.specs.Limits.{rowLimit};
 ghost use Rattle.calls.specs.Layout.{setsSize, membersFrom, withEntry, decodeSets};
 ghost use Rattle.write_bytes.specs.Write.{Room, Wrote};
 ghost use Rattle.write_sets.specs.Texts.{entryText};
+ghost use Rattle.write_sets.specs.Keys.{Keyed};
 
 // Writes the line of a set, or nothing where the set is empty.
 fn put_set_line(out: &mut [u8], at: usize, word: &[u8], n: u16, flags: &[u8]) -> usize
@@ -26,15 +27,20 @@ fn put_set_line(out: &mut [u8], at: usize, word: &[u8], n: u16, flags: &[u8]) ->
     write_text::put_word(out, q, b"]\n")
 }
 
-// Writes the lines of the sets of all names or channels; their bytes stand at the head of a slice.
-pub fn put_sets(out: &mut [u8], at: usize, word: &[u8], sets: &[u8]) -> usize
+// Writes the lines of the sets of all names or channels; their bytes stand at the head of a slice. Only the sets of marked keys are looked at.
+pub fn put_sets(out: &mut [u8], at: usize, word: &[u8], sets: &[u8], keys: &[u8]) -> usize
     requires { ⌜ setsSize ≤ length (now sets) ⌝ }
+    requires { ⌜ Keyed (now keys) (now sets) ⌝ }
     requires { ⌜ Room at (collect (entryText (now word)) (decodeSets rowLimit 0 (now sets))) ⌝ }
     ensures { λ r. ⌜ Wrote (now (out .entry)) at (collect (entryText (now (word .entry))) (decodeSets rowLimit 0 (now (sets .entry)))) r (now (out .exit)) ⌝ }
 {
     let mut next = at;
     let mut n = 0;
     while n < Store::ROWS {
+        if keys[n] == 0 {
+            n += 1;
+            continue;
+        }
         let from = n * Store::MEMBERS;
         let to = from + Store::MEMBERS;
         let key = n as u16;

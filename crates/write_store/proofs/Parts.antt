@@ -15,6 +15,7 @@ use Rattle.calls.specs.Layout.{rowsSize, decodeSets, decodeClaims, commsStart, 
 use Rattle.store.specs.Rows.{storeProgram}
 use Rattle.store.specs.Document.{storeDocument}
 use Rattle.write_sets.specs.Texts.{entryText}
+use Rattle.write_sets.specs.Keys.{Keyed}
 use Rattle.write_claims.proofs.Claims.{claimsText}
 
 -- ---- a document
@@ -55,6 +56,10 @@ behind-is a s = take-all (length s - a) (drop a s) (simp length-drop (omega arit
 
 pub behind-length : (a : ℕ) (s : Bytes) → length (behind a s) ≡ length s - a
 behind-length a s = rw (behind-is a s) (length-drop a s)
+
+-- marks of its sets
+pub behind-keyed : (a : ℕ) (s keys : Bytes) → Keyed keys (drop a s) → Keyed keys (behind a s)
+behind-keyed a s keys k = rw (behind-is a s) k
 
 -- the text of a store's document, by the parts of the store
 abbrev pub partsText : ℕ → Bytes → Bytes

@@ -1,7 +1,10 @@
 -- `write` meets its contract: 20 to 22 of the store, then 23, then the text.
-use Rattle.opening.proofs.Opening.{opens-long}
-use Rattle.call_write.proofs.Texts.{refused-store, no-room, whole-text}
+use native.Mathlib.Omega.{arith}
+use mathlib.Core.Path.{sym}
 use borrow.Author.Needs.{needs}
+use Rattle.opening.proofs.Opening.{fixed-size, opens-long}
+use Rattle.call_write.proofs.Keys.{few-rows, store-keys}
+use Rattle.call_write.proofs.Texts.{refused-store, no-room, whole-text}
 use Rattle.call_write.proofs.write.Statement.{statement}
 use Rattle.call_write.proofs.write.Tie as tie
 
@@ -14,14 +17,35 @@ enum-known-refusal c = search needs
 enum-known-rows : tie.Need-enum-known-rows
 enum-known-rows c = search needs
 
+slice-aggregate-fixed : tie.Need-slice-aggregate-fixed
+slice-aggregate-fixed c = sym (fixed-size _ _ (rw (c .before .before .rows .given .1) at (c .before .before .before .before .«open» .ensures)))
+
+bound-requires : tie.Need-bound-requires
+bound-requires c κs = search needs
+
+chan-rows-requires : tie.Need-chan-rows-requires
+chan-rows-requires c κs = few-rows _ _ (rw (c .before .before .before .rows .given .1) at (c .before .before .before .before .before .«open» .ensures))
+
+slice-aggregate-document-length : tie.Need-slice-aggregate-document-length
+slice-aggregate-document-length c = search needs
+
+slice-aggregate-document-length-2 : tie.Need-slice-aggregate-document-length-2
+slice-aggregate-document-length-2 c = search needs
+
 document-length-requires : tie.Need-document-length-requires
-document-length-requires c κs = opens-long _ _ (rw (c .before .rows .given .1) at (c .before .before .before .«open» .ensures))
+document-length-requires c κs = (opens-long _ _ (rw (c .before .before .before .before .before .before .rows .given .1) at (c .before .before .before .before .before .before .before .before .«open» .ensures)), store-keys _ _ (rw (c .before .before .before .before .before .before .rows .given .1) at (c .before .before .before .before .before .before .before .before .«open» .ensures)) _ _ (c .before .before .before .bound .ensures) (c .before .before .chan-rows .ensures) (omega arith))
 
 returns : tie.Need-returns
-returns c = no-room _ _ _ _ (rw (c .before .before .before .rows .given .1) at (c .before .before .before .before .before .«open» .ensures)) (c .before .document-length .ensures) (c .if1 .taken)
+returns c = no-room _ _ _ _ (rw (c .before .before .before .before .before .before .before .before .rows .given .1) at (c .before .before .before .before .before .before .before .before .before .before .«open» .ensures)) (c .before .document-length .ensures) (c .if1 .taken)
+
+slice-aggregate-put-document : tie.Need-slice-aggregate-put-document
+slice-aggregate-put-document c = search needs
+
+slice-aggregate-put-document-2 : tie.Need-slice-aggregate-put-document-2
+slice-aggregate-put-document-2 c = search needs
 
 put-document-requires : tie.Need-put-document-requires
-put-document-requires c κs = opens-long _ _ (rw (c .before .before .before .before .rows .given .1) at (c .before .before .before .before .before .before .«open» .ensures))
+put-document-requires c κs = (opens-long _ _ (rw (c .before .before .before .before .before .before .before .before .before .before .before .rows .given .1) at (c .before .before .before .before .before .before .before .before .before .before .before .before .before .«open» .ensures)), store-keys _ _ (rw (c .before .before .before .before .before .before .before .before .before .before .before .rows .given .1) at (c .before .before .before .before .before .before .before .before .before .before .before .before .before .«open» .ensures)) _ _ (c .before .before .before .before .before .before .before .before .bound .ensures) (c .before .before .before .before .before .before .before .chan-rows .ensures) (omega arith))
 
 returns-2 : tie.Need-returns-2
 returns-2 c = refused-store _ _ _ (rw (c .before .refusal .given .1) at (c .before .before .before .«open» .ensures))
@@ -30,11 +54,7 @@ same-length : tie.Need-same-length
 same-length c = search needs
 
 returns-3 : tie.Need-returns-3
-returns-3 c =
-    let past8 = c .before .before .before .before .before .before .before .before in
-    whole-text _ _ _ _ _ _ (rw (c .before .before .before .before .before .before .before .rows .given .1) at
-    (past8 .before .«open» .ensures)) (c .before .before .before .before .before .document-length .ensures)
-    (c .before .before .before .before .if1 .left) (c .before .before .put-document .ensures)
+returns-3 c = whole-text _ _ _ _ _ _ (rw (c .before .before .before .before .before .before .before .before .before .before .before .before .before .before .rows .given .1) at (c .before .before .before .before .before .before .before .before .before .before .before .before .before .before .before .before .«open» .ensures)) (c .before .before .before .before .before .before .before .document-length .ensures) (c .before .before .before .before .before .before .if1 .left) (c .before .before .put-document .ensures)
 
 pub write-spec : {M : Type 1} → statement M
 write-spec =
@@ -43,8 +63,15 @@ write-spec =
     open-requires
     enum-known-refusal
     enum-known-rows
+    slice-aggregate-fixed
+    bound-requires
+    chan-rows-requires
+    slice-aggregate-document-length
+    slice-aggregate-document-length-2
     document-length-requires
     returns
+    slice-aggregate-put-document
+    slice-aggregate-put-document-2
     put-document-requires
     returns-2
     same-length

@@ -1,4 +1,4 @@
--- The loop's invariant: of the text, the lines of the sets from n on are left. The sets left get fewer, so the loop ends.
+-- The loop's invariant: of the text, the lines of the sets from n on are left. A set whose key is not marked has no line. The sets left get fewer, so the loop ends.
 use Prim.Native.Nat.{_≤_, _-_, _*_}
 use native.Mathlib.Omega.{arith}
 use lib.ListN.{drop, length-take}
@@ -8,20 +8,33 @@ use Rattle.format.specs.Limits.{rowLimit}
 use Rattle.calls.specs.Layout.{memberLimit, decodeSets}
 use Rattle.write_bytes.proofs.Writing.{room-first}
 use Rattle.write_sets.specs.Texts.{entryText}
-use Rattle.write_sets.proofs.Parts.{sets-next, sets-end}
 use Rattle.write_bytes.proofs.Progress.{Progress, begin, same-rest, room-left, onward, finished, kept}
+use Rattle.write_sets.proofs.Parts.{sets-skip, sets-next, sets-end}
 use Rattle.write_sets.proofs.put_sets.Statement.{statement}
 use Rattle.write_sets.proofs.put_sets.Tie as tie
 
 abbrev Inv-loop : tie.InvT-loop
-Inv-loop out₀ at word sets next₀ n₀ out next n =
+Inv-loop out₀ at word sets keys next₀ n₀ out next n =
     (n ≤ rowLimit) × Progress out₀ at (collect (entryText word) (decodeSets rowLimit 0 sets)) out next (collect (entryText word) (decodeSets (rowLimit - n) n (drop (n * memberLimit) sets)))
 
 abbrev μ-loop : tie.MeasureT-loop
-μ-loop out₀ at word sets next₀ n₀ out next n = rowLimit - n
+μ-loop out₀ at word sets keys next₀ n₀ out next n =
+    rowLimit - n
 
 loop-holds : tie.Need-loop-holds Inv-loop μ-loop
-loop-holds c = (omega arith, begin (c .before .before .before .pre .1))
+loop-holds c = (omega arith, begin (c .before .before .before .before .pre .1 .1))
+
+shared-slice-read-if1 : tie.Need-shared-slice-read-if1 Inv-loop μ-loop
+shared-slice-read-if1 c = omega (arith, c .before .before .before .before .before .before .before .pre .1 .0 .size, c .before .loop-test .taken)
+
+add-n : tie.Need-add-n Inv-loop μ-loop
+add-n c = search needs
+
+loop-less : tie.Need-loop-less Inv-loop μ-loop
+loop-less c = search needs
+
+loop-again : tie.Need-loop-again Inv-loop μ-loop
+loop-again c = (omega arith, same-rest (sets-skip _ _ _ _ (c .before .before .loop-test .taken) (c .before .before .before .before .before .before .before .before .pre .1 .0 .empty _ (c .before .before .loop-test .taken) (c .if1 .taken))) (c .before .before .before .loop .inv .1))
 
 mul-from : tie.Need-mul-from Inv-loop μ-loop
 mul-from c = search needs
@@ -42,23 +55,16 @@ part-put-set-line-end : tie.Need-part-put-set-line-end Inv-loop μ-loop
 part-put-set-line-end c = search needs
 
 put-set-line-requires : tie.Need-put-set-line-requires Inv-loop μ-loop
-put-set-line-requires c κs =
-    let at-loop-test = c .before .before in
-    let at-loop = at-loop-test .before in
-    (simp length-take (omega arith), room-first _ _ (room-left (same-rest (sets-next _ _ _ _ (at-loop-test .loop-test .taken)) (at-loop .loop .inv .1))))
+put-set-line-requires c κs = (simp length-take (omega arith), room-first _ _ (room-left (same-rest (sets-next _ _ _ _ (c .before .before .before .before .loop-test .taken)) (c .before .before .before .before .before .loop .inv .1))))
 
-add-n : tie.Need-add-n Inv-loop μ-loop
-add-n c = search needs
+add-n-2 : tie.Need-add-n-2 Inv-loop μ-loop
+add-n-2 c = search needs
 
-loop-less : tie.Need-loop-less Inv-loop μ-loop
-loop-less c = search needs
+loop-less-2 : tie.Need-loop-less-2 Inv-loop μ-loop
+loop-less-2 c = search needs
 
-loop-again : tie.Need-loop-again Inv-loop μ-loop
-loop-again c =
-    let at-put-set-line = c .before .before in
-    let at-loop-test = at-put-set-line .before .before .before in
-    let at-loop = at-loop-test .before in
-    (omega arith, onward (same-rest (sets-next _ _ _ _ (at-loop-test .loop-test .taken)) (at-loop .loop .inv .1)) (at-put-set-line .put-set-line .ensures))
+loop-again-2 : tie.Need-loop-again-2 Inv-loop μ-loop
+loop-again-2 c = (omega arith, onward (same-rest (sets-next _ _ _ _ (c .before .before .before .before .before .before .before .loop-test .taken)) (c .before .before .before .before .before .before .before .before .loop .inv .1)) (c .before .before .put-set-line .ensures))
 
 same-length : tie.Need-same-length Inv-loop μ-loop
 same-length c = kept (c .before .loop .inv .1)
@@ -73,6 +79,10 @@ put-sets-spec =
     Inv-loop
     μ-loop
     loop-holds
+    shared-slice-read-if1
+    add-n
+    loop-less
+    loop-again
     mul-from
     add-to
     cast-key
@@ -80,8 +90,8 @@ put-sets-spec =
     part-put-set-line-start
     part-put-set-line-end
     put-set-line-requires
-    add-n
-    loop-less
-    loop-again
+    add-n-2
+    loop-less-2
+    loop-again-2
     same-length
     returns)

@@ -6,13 +6,13 @@ use Rattle.format.specs.Text.{ascii}
 use Rattle.calls.specs.Layout.{rowsSize, commsStart, claimsStart}
 use Rattle.write_bytes.specs.Write.{Room}
 use Rattle.write_bytes.proofs.Writing.{then, room-first, room-then}
+use Rattle.write_store.proofs.Parts.{behind-keyed, behind-length, partsText, stored-parts}
 use Rattle.write_store.proofs.Bounds.{stored-room}
-use Rattle.write_store.proofs.Parts.{behind-length, partsText, stored-parts}
 use Rattle.write_store.proofs.put_store.Statement.{statement}
 use Rattle.write_store.proofs.put_store.Tie as tie
 
 room : (c : tie.Start) → Room 0 (partsText (c .args .rows) (c .args .store .now))
-room c = stored-room (c .args .rows) (c .args .store .now) (c .fits .rows .fits) (c .pre)
+room c = stored-room (c .args .rows) (c .args .store .now) (c .fits .rows .fits) (c .pre .0)
 
 slice-aggregate-put-word : tie.Need-slice-aggregate-put-word
 slice-aggregate-put-word c = search needs
@@ -22,10 +22,7 @@ put-word-requires c κs = search needs
 
 put-rows-requires : tie.Need-put-rows-requires
 unfolding header ascii
-put-rows-requires c κs =
-    let at-put-word = c .before .before .before in
-    let start = at-put-word .before .before .before .before .before in
-    (omega (arith, start .pre), room-first _ _ (room-then _ (at-put-word .put-word .ensures) (room start)))
+put-rows-requires c κs = (omega (arith, c .before .before .before .before .before .before .before .before .before .before .pre .0), room-first _ _ (room-then _ (c .before .before .before .put-word .ensures) (room (c .before .before .before .before .before .before .before .before .before .before))))
 
 slice-aggregate-put-sets : tie.Need-slice-aggregate-put-sets
 slice-aggregate-put-sets c = search needs
@@ -41,14 +38,10 @@ part-put-sets-end c = search needs
 
 put-sets-requires : tie.Need-put-sets-requires
 unfolding header ascii
-put-sets-requires c κs =
-    let at-put-rows = c .before .before .before .before .before in
-    let at-put-word = at-put-rows .before .before .before .before in
-    let start = at-put-word .before .before .before .before .before in (
-      omega (arith, behind-length rowsSize (start .args .store .now), start .pre),
-      room-first _ _
-          (room-then _ (at-put-rows .put-rows .ensures) (room-then _ (at-put-word .put-word .ensures) (room start))),
-    )
+put-sets-requires c κs = (
+  omega (arith, behind-length rowsSize (c .before .before .before .before .before .before .before .before .before .before .before .before .before .before .before .before .args .store .now), c .before .before .before .before .before .before .before .before .before .before .before .before .before .before .before .before .pre .0),
+  (behind-keyed rowsSize (c .before .before .before .before .before .before .before .before .before .before .before .before .before .before .before .before .args .store .now) (c .before .before .before .before .before .before .before .before .before .before .before .before .before .before .before .before .args .names .now) (c .before .before .before .before .before .before .before .before .before .before .before .before .before .before .before .before .pre .1 .flows), room-first _ _ (room-then _ (c .before .before .before .before .before .put-rows .ensures) (room-then _ (c .before .before .before .before .before .before .before .before .before .put-word .ensures) (room (c .before .before .before .before .before .before .before .before .before .before .before .before .before .before .before .before))))),
+)
 
 slice-aggregate-put-sets-2 : tie.Need-slice-aggregate-put-sets-2
 slice-aggregate-put-sets-2 c = search needs
@@ -64,15 +57,10 @@ part-put-sets-end-2 c = search needs
 
 put-sets-requires-2 : tie.Need-put-sets-requires-2
 unfolding header ascii
-put-sets-requires-2 c κs =
-    let at-put-sets = c .before .before .before .before .before in
-    let at-put-rows = at-put-sets .before .before .before .before .before .before in
-    let at-put-word = at-put-rows .before .before .before .before in
-    let start = at-put-word .before .before .before .before .before in (
-      omega (arith, behind-length commsStart (start .args .store .now), start .pre),
-      room-first _ _
-          (room-then _ (at-put-sets .put-sets .ensures) (room-then _ (at-put-rows .put-rows .ensures) (room-then _ (at-put-word .put-word .ensures) (room start)))),
-    )
+put-sets-requires-2 c κs = (
+  omega (arith, behind-length commsStart (c .before .before .before .before .before .before .before .before .before .before .before .before .before .before .before .before .before .before .before .before .before .before .args .store .now), c .before .before .before .before .before .before .before .before .before .before .before .before .before .before .before .before .before .before .before .before .before .before .pre .0),
+  (behind-keyed commsStart (c .before .before .before .before .before .before .before .before .before .before .before .before .before .before .before .before .before .before .before .before .before .before .args .store .now) (c .before .before .before .before .before .before .before .before .before .before .before .before .before .before .before .before .before .before .before .before .before .before .args .chans .now) (c .before .before .before .before .before .before .before .before .before .before .before .before .before .before .before .before .before .before .before .before .before .before .pre .1 .comms), room-first _ _ (room-then _ (c .before .before .before .before .before .put-sets .ensures) (room-then _ (c .before .before .before .before .before .before .before .before .before .before .before .put-rows .ensures) (room-then _ (c .before .before .before .before .before .before .before .before .before .before .before .before .before .before .before .put-word .ensures) (room (c .before .before .before .before .before .before .before .before .before .before .before .before .before .before .before .before .before .before .before .before .before .before)))))),
+)
 
 sub-put-claims : tie.Need-sub-put-claims
 sub-put-claims c = search needs
@@ -85,32 +73,17 @@ part-put-claims-end c = search needs
 
 put-claims-requires : tie.Need-put-claims-requires
 unfolding header ascii
-put-claims-requires c κs =
-    let at-put-sets2 = c .before .before .before .before in
-    let at-put-sets = at-put-sets2 .before .before .before .before .before .before in
-    let at-put-rows = at-put-sets .before .before .before .before .before .before in
-    let at-put-word = at-put-rows .before .before .before .before in
-    let start = at-put-word .before .before .before .before .before in (
-      omega (arith, behind-length claimsStart (start .args .store .now), start .pre),
-      room-then _ (at-put-sets2 .put-sets2 .ensures)
-          (room-then _ (at-put-sets .put-sets .ensures) (room-then _ (at-put-rows .put-rows .ensures) (room-then _ (at-put-word .put-word .ensures) (room start)))),
-    )
+put-claims-requires c κs = (
+  omega (arith, behind-length claimsStart (c .before .before .before .before .before .before .before .before .before .before .before .before .before .before .before .before .before .before .before .before .before .before .before .before .before .before .before .args .store .now), c .before .before .before .before .before .before .before .before .before .before .before .before .before .before .before .before .before .before .before .before .before .before .before .before .before .before .before .pre .0),
+  room-then _ (c .before .before .before .before .put-sets2 .ensures) (room-then _ (c .before .before .before .before .before .before .before .before .before .before .put-sets .ensures) (room-then _ (c .before .before .before .before .before .before .before .before .before .before .before .before .before .before .before .before .put-rows .ensures) (room-then _ (c .before .before .before .before .before .before .before .before .before .before .before .before .before .before .before .before .before .before .before .before .put-word .ensures) (room (c .before .before .before .before .before .before .before .before .before .before .before .before .before .before .before .before .before .before .before .before .before .before .before .before .before .before .before))))),
+)
 
 same-length : tie.Need-same-length
 same-length c = search needs
 
 returns : tie.Need-returns
 unfolding header ascii
-returns c =
-    let at-put-claims = c .before .before in
-    let at-put-sets2 = at-put-claims .before .before .before .before .before in
-    let at-put-sets = at-put-sets2 .before .before .before .before .before .before in
-    let at-put-rows = at-put-sets .before .before .before .before .before .before in
-    let at-put-word = at-put-rows .before .before .before .before in
-    let start = at-put-word .before .before .before .before .before in
-    rw (stored-parts (start .args .rows) (start .args .store .now) (start .pre))
-    (then (at-put-word .put-word .ensures) (then (at-put-rows .put-rows .ensures)
-    (then (at-put-sets .put-sets .ensures) (then (at-put-sets2 .put-sets2 .ensures) (at-put-claims .put-claims .ensures)))))
+returns c = rw (stored-parts _ _ (c .before .before .before .before .before .before .before .before .before .before .before .before .before .before .before .before .before .before .before .before .before .before .before .before .before .before .before .before .before .before .pre .0)) (then (c .before .before .before .before .before .before .before .before .before .before .before .before .before .before .before .before .before .before .before .before .before .before .before .put-word .ensures) (then (c .before .before .before .before .before .before .before .before .before .before .before .before .before .before .before .before .before .before .before .put-rows .ensures) (then (c .before .before .before .before .before .before .before .before .before .before .before .before .before .put-sets .ensures) (then (c .before .before .before .before .before .before .before .put-sets2 .ensures) (c .before .before .put-claims .ensures)))))
 
 pub put-store-spec : {M : Type 1} → statement M
 put-store-spec =

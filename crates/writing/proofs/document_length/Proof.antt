@@ -7,10 +7,10 @@ use Rattle.writing.proofs.document_length.Statement.{statement}
 use Rattle.writing.proofs.document_length.Tie as tie
 
 slice-aggregate-store-length : tie.Need-slice-aggregate-store-length
-slice-aggregate-store-length c = sym (length-take-le storeSize (c .before .before .args .store .now) (c .before .before .pre))
+slice-aggregate-store-length c = sym (length-take-le storeSize (c .before .before .before .before .args .store .now) (c .before .before .before .before .pre .0))
 
 store-length-requires : tie.Need-store-length-requires
-store-length-requires c κs = length-take-le storeSize (c .before .before .args .store .now) (c .before .before .pre)
+store-length-requires c κs = (length-take-le storeSize (c .before .before .before .before .args .store .now) (c .before .before .before .before .pre .0), c .before .before .before .before .pre .1)
 
 returns : tie.Need-returns
 returns c = search needs

@@ -7,10 +7,10 @@ use Rattle.writing.proofs.put_document.Statement.{statement}
 use Rattle.writing.proofs.put_document.Tie as tie
 
 slice-aggregate-put-store : tie.Need-slice-aggregate-put-store
-slice-aggregate-put-store c = sym (length-take-le storeSize (c .before .before .before .before .args .store .now) (c .before .before .before .before .pre))
+slice-aggregate-put-store c = sym (length-take-le storeSize (c .before .before .before .before .before .before .args .store .now) (c .before .before .before .before .before .before .pre .0))
 
 put-store-requires : tie.Need-put-store-requires
-put-store-requires c κs = length-take-le storeSize (c .before .before .before .before .args .store .now) (c .before .before .before .before .pre)
+put-store-requires c κs = (length-take-le storeSize (c .before .before .before .before .before .before .args .store .now) (c .before .before .before .before .before .before .pre .0), c .before .before .before .before .before .before .pre .1)
 
 same-length : tie.Need-same-length
 same-length c = search needs
