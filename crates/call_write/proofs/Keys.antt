@@ -1,5 +1,4 @@
 -- In a store that opens only bound names have flow sets, and only chan rows comm sets.
--- a key that no line has
 use Prim.Native.Nat.{ℕ, _+_, _≤_}
 use native.Mathlib.Omega.{arith}
 use mathlib.Core.Bool.{Bool, true, So}
@@ -30,6 +29,7 @@ use Rattle.opening.specs.Opening.{OpenedIs}
 use Rattle.opening.proofs.Opening.{opens-is}
 use Rattle.write_sets.specs.Keys.{Keyed, StoreKeys}
 
+-- a key that no line has
 unlisted : (es : List Entry) (n : ℕ) → Each (λ e. n ≡ e .key → ⊥) es → membersAt es n ≡ []
 unfolding membersAt
 unlisted [] n nil = refl

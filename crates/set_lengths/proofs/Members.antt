@@ -1,6 +1,4 @@
 -- The length of the members of a set, by how many of them have one, two and three digits.
--- ---- how many members there are
--- wherever they begin
 use Prim.Native.Nat.{ℕ, zero, suc, _+_, _-_, _*_, _<_, _≤_}
 use native.Mathlib.Omega.{arith}
 use native.Mathlib.Decide.{ℕ-discrete}
@@ -15,15 +13,10 @@ use Rattle.format.specs.Print.{memberText, membersText}
 use Rattle.calls.specs.Layout.{memberLimit, membersFrom}
 use Rattle.calls.proofs.Codec.Sparse.{either}
 use Rattle.number_lengths.proofs.Digits.{one-digit, two-digits, three-digits}
-use Rattle.set_counts.proofs.Members.{skip, keep, none-left}
+use Rattle.set_counts.proofs.Members.{skip, keep, none-left, same-count, members-append}
 use Rattle.set_lengths.specs.Lengths.{isMember}
 
-same-count : (m n : ℕ) (bs : Bytes) → length (membersFrom m bs) ≡ length (membersFrom n bs)
-unfolding membersFrom
-same-count m n [] = refl
-same-count m n (b ∷ bs) =
-    let more = same-count (suc m) (suc n) bs in
-    either (eqb b 0) (λ e. rw (e, membersFrom) more) (λ e. rw (e, membersFrom) (ap suc more))
+-- ---- how many members there are
 
 abbrev pub countFrom : ℕ → Bytes → ℕ
 countFrom i bs = length (membersFrom i (drop i bs))
@@ -39,14 +32,6 @@ pub count-end : (bs : Bytes) (i : ℕ) → length bs ≤ i → countFrom i bs �
 count-end bs i h = rw (none-left bs i h)
 
 -- ---- members one after the other
-
-members-append : (m : ℕ) (xs ys : Bytes) → membersFrom m (xs ++ ys) ≡ membersFrom m xs ++ membersFrom (m + length xs) ys
-unfolding membersFrom
-members-append m [] ys = let q : m + 0 ≡ m = omega arith in rw q
-members-append m (x ∷ xs) ys =
-    let q : m + suc (length xs) ≡ suc m + length xs = omega arith in
-    let more = members-append (suc m) xs ys in
-    either (eqb x 0) (λ e. rw (e, membersFrom, q) more) (λ e. rw (e, membersFrom, q) (ap (λ (l : List ℕ). m ∷ l) more))
 
 text-append : (xs ys : List ℕ) → length (membersText (xs ++ ys)) + 1 ≡ length (membersText xs) + length (membersText ys)
 unfolding membersText ascii
