@@ -17,7 +17,7 @@ use Rattle.format.specs.Print.{documentText}
 use Rattle.calls.specs.declared.WriteAnswer.{WriteAnswer}
 use Rattle.calls.specs.Layout.{storeSize, decode}
 use Rattle.calls.specs.Calls.{Leaves, opened, andThen, written, write}
-use Rattle.write_bytes.specs.Write.{Wrote}
+use Rattle.write_bytes.specs.Write.{Room, Wrote}
 use Rattle.store.specs.Document.{storeDocument}
 use Rattle.store.proofs.Document.{document-is}
 use Rattle.opening.specs.declared.Opened.{Opened}
@@ -29,6 +29,10 @@ at-head : (text out : Bytes) → length text ≤ length out → sets out 0 text 
 at-head text out l =
     let q : 0 + length text ≡ length text = omega arith in
     sets-eq text out 0 (omega (arith, l)) ∙ ap (λ (k : ℕ). text ++ drop k out) q
+
+-- a text that is not longer than the output has room
+pub text-room : {text out : Bytes} {n : ℕ} → n ≡ length text → n ≤ length out → Room out 0 text
+text-room e l = record { room = omega (arith, e, l) }
 
 module _ (store out : Bytes) where
   abbrev fixed : Bytes

@@ -17,7 +17,7 @@ ghost use Rattle.grids.specs.Grid.{gridSize, Shows};
 fn put_row(out: &mut [u8], at: usize, store: &[u8], rows: u8, grid: &[u8], row: u8) -> usize
     requires { ⌜ (storeSize ≤ length (now store)) × (rows ≡ countRows rowLimit (now store)) × (gridSize ≤ length (now grid)) ⌝ }
     requires { ⌜ Shows (reach (storeProgram rows (now store)) (storeFlow (now store))) (now grid) ⌝ }
-    requires { ⌜ Room at (channelLine (decode (now store)) row) ⌝ }
+    requires { ⌜ Room (now out) at (channelLine (decode (now store)) row) ⌝ }
     ensures { λ r. ⌜ Wrote (now (out .entry)) at (channelLine (decode (now (store .entry))) row) r (now (out .exit)) ⌝ }
 {
     if forms::is_chan(store, rows, row) {
@@ -32,7 +32,7 @@ fn put_row(out: &mut [u8], at: usize, store: &[u8], rows: u8, grid: &[u8], row: 
 pub fn put_channels(out: &mut [u8], at: usize, store: &[u8], rows: u8, grid: &[u8]) -> usize
     requires { ⌜ (storeSize ≤ length (now store)) × (rows ≡ countRows rowLimit (now store)) × (gridSize ≤ length (now grid)) ⌝ }
     requires { ⌜ Shows (reach (storeProgram rows (now store)) (storeFlow (now store))) (now grid) ⌝ }
-    requires { ⌜ Room at (channelLines (decode (now store))) ⌝ }
+    requires { ⌜ Room (now out) at (channelLines (decode (now store))) ⌝ }
     ensures { λ r. ⌜ Wrote (now (out .entry)) at (channelLines (decode (now (store .entry)))) r (now (out .exit)) ⌝ }
 {
     let mut next = at;

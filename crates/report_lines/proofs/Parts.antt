@@ -5,7 +5,7 @@ use mathlib.Core.Path.{_≡_}
 use Rattle.format.specs.Text.{argument}
 use Rattle.write_bytes.specs.Write.{Room, Wrote}
 
-pub same-room : {n k i : ℕ} → n ≡ k → Room i (argument k) → Room i (argument n)
+pub same-room : {l : List ℕ} {n k i : ℕ} → n ≡ k → Room l i (argument k) → Room l i (argument n)
 same-room e r = rw e r
 
 pub same-argument : {l m : List ℕ} {n k i j : ℕ} → n ≡ k → Wrote l i (argument n) j m → Wrote l i (argument k) j m

@@ -8,7 +8,7 @@ ghost use Rattle.report.specs.Report.{refusedText, acceptedText, yesNoText, wor
 // Writes `[refused NUMBER LINE]`.
 pub fn put_refused(out: &mut [u8], at: usize, refusal: Refusal) -> usize
     requires { ⌜ refusal .line < 65536 ⌝ }
-    requires { ⌜ Room at (refusedText refusal) ⌝ }
+    requires { ⌜ Room (now out) at (refusedText refusal) ⌝ }
     ensures { λ r. ⌜ Wrote (now (out .entry)) at (refusedText refusal) r (now (out .exit)) ⌝ }
 {
     let line = refusal.line as u16;
@@ -22,7 +22,7 @@ pub fn put_refused(out: &mut [u8], at: usize, refusal: Refusal) -> usize
 
 // Writes `[accepted N]`.
 pub fn put_accepted(out: &mut [u8], at: usize, claims: u16) -> usize
-    requires { ⌜ Room at (acceptedText claims) ⌝ }
+    requires { ⌜ Room (now out) at (acceptedText claims) ⌝ }
     ensures { λ r. ⌜ Wrote (now (out .entry)) at (acceptedText claims) r (now (out .exit)) ⌝ }
 {
     let p = write_text::put_word(out, at, b"[accepted");
@@ -32,7 +32,7 @@ pub fn put_accepted(out: &mut [u8], at: usize, claims: u16) -> usize
 
 // Writes a byte, and `yes` or `no` behind it.
 fn put_yes_no(out: &mut [u8], at: usize, before: u8, word: bool) -> usize
-    requires { ⌜ Room at (before ∷ yesNoText word) ⌝ }
+    requires { ⌜ Room (now out) at (before ∷ yesNoText word) ⌝ }
     ensures { λ r. ⌜ Wrote (now (out .entry)) at (before ∷ yesNoText word) r (now (out .exit)) ⌝ }
 {
     let p = write_text::put_byte(out, at, before);
@@ -52,7 +52,7 @@ fn put_words(
     fanin: bool,
     onesync: bool,
 ) -> usize
-    requires { ⌜ Room at (wordsText (oneshot ∷ onetoone ∷ fanout ∷ fanin ∷ onesync ∷ [])) ⌝ }
+    requires { ⌜ Room (now out) at (wordsText (oneshot ∷ onetoone ∷ fanout ∷ fanin ∷ onesync ∷ [])) ⌝ }
     ensures { λ r. ⌜ Wrote (now (out .entry)) at (wordsText (oneshot ∷ onetoone ∷ fanout ∷ fanin ∷ onesync ∷ [])) r (now (out .exit)) ⌝ }
 {
     let p = put_yes_no(out, at, 91, oneshot);
@@ -74,7 +74,7 @@ pub fn put_channel(
     fanin: bool,
     onesync: bool,
 ) -> usize
-    requires { ⌜ Room at (channelText row (oneshot ∷ onetoone ∷ fanout ∷ fanin ∷ onesync ∷ [])) ⌝ }
+    requires { ⌜ Room (now out) at (channelText row (oneshot ∷ onetoone ∷ fanout ∷ fanin ∷ onesync ∷ [])) ⌝ }
     ensures { λ r. ⌜ Wrote (now (out .entry)) at (channelText row (oneshot ∷ onetoone ∷ fanout ∷ fanin ∷ onesync ∷ [])) r (now (out .exit)) ⌝ }
 {
     let p = write_text::put_head(out, at, b"[channel", row);

@@ -47,12 +47,12 @@ lineIn (accepted d) = 0
 
 -- ---- rooms
 
-pub refused-room : (r : Refusal) → Room 0 (refusedText r)
-refused-room r = record { room = omega (arith, refused-short r) }
+pub refused-room : {out : Bytes} → reportLimit ≤ length out → (r : Refusal) → Room out 0 (refusedText r)
+refused-room l r = record { room = omega (arith, refused-short r) }
 
-accepted-room : (d : Document) → length (d .rows) ≤ rowLimit → (n : ℕ) → Room 0 (acceptedText n ++ channelLines d)
+accepted-room : {out : Bytes} → reportLimit ≤ length out → (d : Document) → length (d .rows) ≤ rowLimit → (n : ℕ) → Room out 0 (acceptedText n ++ channelLines d)
 unfolding judgedText
-accepted-room d few n = record { room = omega (arith, judged-short d few (accepted n)) }
+accepted-room l d few n = record { room = omega (arith, judged-short d few (accepted n)) }
 
 -- ---- a store, by what opening it answers
 
@@ -79,8 +79,8 @@ module _ (store : Bytes) where
     few : length (decode fixed .rows) ≤ rowLimit
     few = let e = counted store n h in omega (arith, row-count n fixed e, few-rows n fixed e)
 
-    pub opened-room : (k : ℕ) → Room 0 (acceptedText k ++ channelLines (decode fixed))
-    opened-room k = accepted-room (decode fixed) few k
+    pub opened-room : {out : Bytes} → reportLimit ≤ length out → (k : ℕ) → Room out 0 (acceptedText k ++ channelLines (decode fixed))
+    opened-room l k = accepted-room l (decode fixed) few k
 
     document : opened store ≡ accepted (decode fixed)
     document = opens-is fixed (opened store) n h .0

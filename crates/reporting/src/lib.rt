@@ -25,6 +25,7 @@ ghost use Rattle.reporting.specs.Reports.{FileReported};
 // Writes the report of a store that opens, with so many rows: what judging it gives.
 fn put_judged(out: &mut [u8], store: &[u8], rows: u8) -> usize
     requires { ⌜ OpenedIs (opened (now store)) (take storeSize (now store)) (Opened.Rows rows) ⌝ }
+    requires { ⌜ reportLimit ≤ length (now out) ⌝ }
     ensures { λ r. ⌜ Wrote (now (out .entry)) 0 (checkedText (opened (now (store .entry)))) r (now (out .exit)) ⌝ }
 {
     let fixed = &store[..Store::SIZE];
@@ -41,6 +42,7 @@ fn put_judged(out: &mut [u8], store: &[u8], rows: u8) -> usize
 
 // Writes the report of a store: why it does not open, or what judging it gives.
 fn put_store(out: &mut [u8], store: &[u8]) -> usize
+    requires { ⌜ reportLimit ≤ length (now out) ⌝ }
     ensures { λ r. ⌜ Wrote (now (out .entry)) 0 (checkedText (opened (now (store .entry)))) r (now (out .exit)) ⌝ }
 {
     match opening::open(store) {
@@ -52,6 +54,7 @@ fn put_store(out: &mut [u8], store: &[u8]) -> usize
 // Writes the report of a file, which is loaded into the store.
 fn put_file(file: &[u8], store: &mut [u8], out: &mut [u8]) -> usize
     requires { ⌜ storeSize ≤ length (now store) ⌝ }
+    requires { ⌜ reportLimit ≤ length (now out) ⌝ }
     ensures { λ r. ⌜ FileReported (now (file .entry)) (now (store .entry)) (now (out .entry)) r (now (store .exit)) (now (out .exit)) ⌝ }
 {
     match call_load::load(file, store) {

@@ -13,9 +13,9 @@ pub record Progress (l : List ℕ) (i : ℕ) (text : List ℕ) (m : List ℕ) (j
   pub done : List ℕ
   pub whole : text ≡ done ++ rest
   pub wrote : Wrote l i done j m
-  pub room : Room i text
+  pub room : Room l i text
 
-pub begin : {l text : List ℕ} {i : ℕ} → Room i text → Progress l i text l i text
+pub begin : {l text : List ℕ} {i : ℕ} → Room l i text → Progress l i text l i text
 begin r = record { done = []; whole = refl; wrote = nothing; room = r }
 
 -- the rest in other words
@@ -23,9 +23,9 @@ pub same-rest : {l text m rest other : List ℕ} {i j : ℕ} → rest ≡ other 
 same-rest e p = rw e at p
 
 -- what is left has room
-pub room-left : {l text m rest : List ℕ} {i j : ℕ} → Progress l i text m j rest → Room j rest
+pub room-left : {l text m rest : List ℕ} {i j : ℕ} → Progress l i text m j rest → Room m j rest
 room-left {rest = rest} p =
-    record { room = omega (arith, p .room .room, p .wrote .next-is, ap length (p .whole), length-append (p .done) rest) }
+    record { room = omega (arith, p .room .room, p .wrote .next-is, ap length (p .whole), length-append (p .done) rest, wrote-length (p .wrote)) }
 
 -- one part more
 pub onward : {l text m n a b : List ℕ} {i j k : ℕ} → Progress l i text m j (a ++ b) → Wrote m j a k n → Progress l i text n k b

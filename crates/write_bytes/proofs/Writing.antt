@@ -26,21 +26,21 @@ then {l} {a = a} {b = b} {i = i} p q =
       left-is = q .left-is ∙ rw (p .left-is, p .next-is) (sym (sets-append l i a b));
     }
 
--- room for both is room for each
-pub room-first : (a b : List ℕ) {i : ℕ} → Room i (a ++ b) → Room i a
-room-first a b r = record { room = omega (arith, r .room, length-append a b) }
-
-pub room-then : (b : List ℕ) {l m a : List ℕ} {i j : ℕ} → Wrote l i a j m → Room i (a ++ b) → Room j b
-room-then b {a = a} p r = record { room = omega (arith, r .room, p .next-is, length-append a b) }
-
 -- a write changes no length
 pub wrote-length : {l m a : List ℕ} {i j : ℕ} → Wrote l i a j m → length m ≡ length l
 wrote-length {l} {a = a} {i = i} p = ap length (p .left-is) ∙ length-sets l i a
 
+-- room for both is room for each
+pub room-first : (a b : List ℕ) {l : List ℕ} {i : ℕ} → Room l i (a ++ b) → Room l i a
+room-first a b r = record { room = omega (arith, r .room, length-append a b) }
+
+pub room-then : (b : List ℕ) {l m a : List ℕ} {i j : ℕ} → Wrote l i a j m → Room l i (a ++ b) → Room m j b
+room-then b {a = a} p r = record { room = omega (arith, r .room, p .next-is, length-append a b, wrote-length p) }
+
 -- a word of which the first i bytes are written: its next byte has room, and is written behind them
 module _ (word : List ℕ) (i : ℕ) (h : i < length word) where
-  pub room-next : {l m : List ℕ} {at j : ℕ} → Room at word → Wrote l at (take i word) j m → Room j (getD word i 0 ∷ [])
-  room-next r p = record { room = omega (arith, r .room, p .next-is, length-take-le i word (omega arith)) }
+  pub room-next : {l m : List ℕ} {at j : ℕ} → Room l at word → Wrote l at (take i word) j m → Room m j (getD word i 0 ∷ [])
+  room-next r p = record { room = omega (arith, r .room, p .next-is, length-take-le i word (omega arith), wrote-length p) }
 
   pub then-next : {l m n : List ℕ} {at j k : ℕ} → Wrote l at (take i word) j m → Wrote m j (getD word i 0 ∷ []) k n → Wrote l at (take (i + 1) word) k n
   then-next p q = rw (add-one, take-suc word i 0 h) (then p q)

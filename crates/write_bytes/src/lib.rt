@@ -2,20 +2,18 @@
 ghost use mathlib.Core.List.{[], _∷_};
 ghost use Rattle.write_bytes.specs.Write.{Room, Wrote};
 
-// Writes a byte, where it has room, and returns the next position.
+// Writes a byte and returns the next position.
 pub fn put_byte(out: &mut [u8], at: usize, b: u8) -> usize
-    requires { ⌜ Room at (b ∷ []) ⌝ }
+    requires { ⌜ Room (now out) at (b ∷ []) ⌝ }
     ensures { λ r. ⌜ Wrote (now (out .entry)) at (b ∷ []) r (now (out .exit)) ⌝ }
 {
-    if at < out.len() {
-        out[at] = b;
-    }
+    out[at] = b;
     at + 1
 }
 
 // Writes the bytes of a word and returns the next position.
 pub fn put_word(out: &mut [u8], at: usize, word: &[u8]) -> usize
-    requires { ⌜ Room at (now word) ⌝ }
+    requires { ⌜ Room (now out) at (now word) ⌝ }
     ensures { λ r. ⌜ Wrote (now (out .entry)) at (now (word .entry)) r (now (out .exit)) ⌝ }
 {
     let mut next = at;

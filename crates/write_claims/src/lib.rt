@@ -11,7 +11,7 @@ ghost use Rattle.write_bytes.specs.Write.{Room, Wrote};
 
 // Writes the word of a code.
 fn put_claim_word(out: &mut [u8], at: usize, code: u8) -> usize
-    requires { ⌜ Room at (ascii (wordText (wordOf code))) ⌝ }
+    requires { ⌜ Room (now out) at (ascii (wordText (wordOf code))) ⌝ }
     ensures { λ r. ⌜ Wrote (now (out .entry)) at (ascii (wordText (wordOf code))) r (now (out .exit)) ⌝ }
 {
     match code {
@@ -26,7 +26,7 @@ fn put_claim_word(out: &mut [u8], at: usize, code: u8) -> usize
 
 // Writes the line of a claim on row c, or nothing where the code is 0.
 fn put_claim(out: &mut [u8], at: usize, c: u16, code: u8) -> usize
-    requires { ⌜ Room at (collect lineText (map claim (decodeClaims c (code ∷ [])))) ⌝ }
+    requires { ⌜ Room (now out) at (collect lineText (map claim (decodeClaims c (code ∷ [])))) ⌝ }
     ensures { λ r. ⌜ Wrote (now (out .entry)) at (collect lineText (map claim (decodeClaims c (code ∷ [])))) r (now (out .exit)) ⌝ }
 {
     if code == 0 {
@@ -40,7 +40,7 @@ fn put_claim(out: &mut [u8], at: usize, c: u16, code: u8) -> usize
 // Writes the lines of the claims, of which each row has a code.
 pub fn put_claims(out: &mut [u8], at: usize, codes: &[u8]) -> usize
     requires { ⌜ length (now codes) ≤ 65536 ⌝ }
-    requires { ⌜ Room at (collect lineText (map claim (decodeClaims 0 (now codes)))) ⌝ }
+    requires { ⌜ Room (now out) at (collect lineText (map claim (decodeClaims 0 (now codes)))) ⌝ }
     ensures { λ r. ⌜ Wrote (now (out .entry)) at (collect lineText (map claim (decodeClaims 0 (now (codes .entry))))) r (now (out .exit)) ⌝ }
 {
     let mut next = at;

@@ -104,7 +104,7 @@ part-inside p h =
     let ends = all-elim 14 (λ p. leb (getD starts (p + 1) 0) 75) refl p h in
     (leb-true _ _ rises, leb-true _ _ ends)
 
-pub word-room : (k : ℕ) {i : ℕ} → Room i (kindWord k) → Room i (wordAt (formPlace k))
+pub word-room : (k : ℕ) {l : Bytes} {i : ℕ} → Room l i (kindWord k) → Room l i (wordAt (formPlace k))
 word-room k r = rw (word-is k) r
 
 pub word-wrote : (k : ℕ) {l m : Bytes} {i j : ℕ} → Wrote l i (wordAt (formPlace k)) j m → Wrote l i (kindWord k) j m

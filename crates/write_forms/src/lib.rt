@@ -1,4 +1,4 @@
-// Forms, written into a slice at a position by their kind and their numbers. What does not fit the slice is not written, and counts all the same.
+// Forms, written into a slice at a position by their kind and their numbers.
 use kinds::arity;
 use kinds::form_place;
 ghost use mathlib.Core.Path.{_≡_};
@@ -12,7 +12,7 @@ ghost use Rattle.write_forms.specs.Texts.{kindWord};
 
 // Writes numbers, each with a space before it.
 fn put_arguments(out: &mut [u8], at: usize, numbers: &[u8]) -> usize
-    requires { ⌜ Room at (arguments (now numbers)) ⌝ }
+    requires { ⌜ Room (now out) at (arguments (now numbers)) ⌝ }
     ensures { λ r. ⌜ Wrote (now (out .entry)) at (arguments (now (numbers .entry))) r (now (out .exit)) ⌝ }
 {
     let mut next = at;
@@ -28,7 +28,7 @@ fn put_arguments(out: &mut [u8], at: usize, numbers: &[u8]) -> usize
 // Writes a part of a text.
 fn put_part(out: &mut [u8], at: usize, text: &[u8], from: usize, to: usize) -> usize
     requires { ⌜ (from ≤ to) × (to ≤ length (now text)) ⌝ }
-    requires { ⌜ Room at (take (to - from) (drop from (now text))) ⌝ }
+    requires { ⌜ Room (now out) at (take (to - from) (drop from (now text))) ⌝ }
     ensures { λ r. ⌜ Wrote (now (out .entry)) at (take (to - from) (drop from (now (text .entry)))) r (now (out .exit)) ⌝ }
 {
     write_text::put_word(out, at, &text[from..to])
@@ -36,7 +36,7 @@ fn put_part(out: &mut [u8], at: usize, text: &[u8], from: usize, to: usize) -> u
 
 // Writes the word of a kind, with the bracket before it.
 fn put_kind(out: &mut [u8], at: usize, kind: u8) -> usize
-    requires { ⌜ Room at (kindWord kind) ⌝ }
+    requires { ⌜ Room (now out) at (kindWord kind) ⌝ }
     ensures { λ r. ⌜ Wrote (now (out .entry)) at (kindWord kind) r (now (out .exit)) ⌝ }
 {
     let starts = [0, 5, 10, 15, 20, 25, 30, 36, 40, 46, 51, 57, 64, 69, 75];
@@ -55,7 +55,7 @@ fn put_kind(out: &mut [u8], at: usize, kind: u8) -> usize
 // Writes the form of a kind and five numbers, of which it holds the first.
 pub fn put_form(out: &mut [u8], at: usize, kind: u8, numbers: &[u8]) -> usize
     requires { ⌜ length (now numbers) ≡ 5 ⌝ }
-    requires { ⌜ Room at (formText (formOf kind (now numbers))) ⌝ }
+    requires { ⌜ Room (now out) at (formText (formOf kind (now numbers))) ⌝ }
     ensures { λ r. ⌜ Wrote (now (out .entry)) at (formText (formOf kind (now (numbers .entry)))) r (now (out .exit)) ⌝ }
 {
     let count = arity(kind);

@@ -14,7 +14,7 @@ ghost use Rattle.write_members.specs.Passing.{Passes};
 // Writes a member: `u`, or the row's number.
 fn put_member(out: &mut [u8], at: usize, m: usize) -> usize
     requires { ⌜ m ≤ 65536 ⌝ }
-    requires { ⌜ Room at (memberText m) ⌝ }
+    requires { ⌜ Room (now out) at (memberText m) ⌝ }
     ensures { λ r. ⌜ Wrote (now (out .entry)) at (memberText m) r (now (out .exit)) ⌝ }
 {
     if m == 0 {
@@ -47,7 +47,7 @@ fn passed(flags: &[u8], m: usize) -> usize
 pub fn put_set(out: &mut [u8], at: usize, flags: &[u8]) -> usize
     requires { ⌜ length (now flags) ≤ 65536 ⌝ }
     requires { ⌜ So (present (membersFrom 0 (now flags))) ⌝ }
-    requires { ⌜ Room at (setText (membersFrom 0 (now flags))) ⌝ }
+    requires { ⌜ Room (now out) at (setText (membersFrom 0 (now flags))) ⌝ }
     ensures { λ r. ⌜ Wrote (now (out .entry)) at (setText (membersFrom 0 (now (flags .entry)))) r (now (out .exit)) ⌝ }
 {
     let mut next = at;

@@ -45,7 +45,7 @@ fn put_place(out: &mut [u8], at: usize, n: u16, p: u16, rest: u16) -> Placed
     requires { ⌜ 0 < p ⌝ }
     requires { ⌜ p ≤ 10000 ⌝ }
     requires { ⌜ rest ≡ n % (10 * p) ⌝ }
-    requires { ⌜ Room at (place n p) ⌝ }
+    requires { ⌜ Room (now out) at (place n p) ⌝ }
     ensures { λ r. ⌜ Wrote (now (out .entry)) at (place n p) (r .next) (now (out .exit)) ⌝ }
     ensures { λ r. ⌜ r .rest ≡ n % p ⌝ }
 {
@@ -63,7 +63,7 @@ fn put_place(out: &mut [u8], at: usize, n: u16, p: u16, rest: u16) -> Placed
 
 // Writes n in decimal and returns the next position.
 pub fn put_number(out: &mut [u8], at: usize, n: u16) -> usize
-    requires { ⌜ Room at (digits n) ⌝ }
+    requires { ⌜ Room (now out) at (digits n) ⌝ }
     ensures { λ r. ⌜ Wrote (now (out .entry)) at (digits n) r (now (out .exit)) ⌝ }
 {
     let a = put_place(out, at, n, 10000, n);

@@ -1,4 +1,4 @@
-// Rows and their lines, written into a slice at a position. What does not fit the slice is not written, and counts all the same.
+// Rows and their lines, written into a slice at a position.
 // A row is read as it stands in the store: its kind, its name, its rest and five numbers.
 use store::Store;
 use write_forms::put_form;
@@ -15,7 +15,7 @@ ghost use Rattle.write_rows.specs.Texts.{resultText};
 
 // Writes a result row.
 fn put_result(out: &mut [u8], at: usize, name: u8) -> usize
-    requires { ⌜ Room at (resultText name) ⌝ }
+    requires { ⌜ Room (now out) at (resultText name) ⌝ }
     ensures { λ r. ⌜ Wrote (now (out .entry)) at (resultText name) r (now (out .exit)) ⌝ }
 {
     let p = write_text::put_word(out, at, b"[result");
@@ -26,7 +26,7 @@ fn put_result(out: &mut [u8], at: usize, name: u8) -> usize
 // Writes a row.
 fn put_row(out: &mut [u8], at: usize, row: &[u8]) -> usize
     requires { ⌜ length (now row) ≡ rowSize ⌝ }
-    requires { ⌜ Room at (rowText (rowOf (now row))) ⌝ }
+    requires { ⌜ Room (now out) at (rowText (rowOf (now row))) ⌝ }
     ensures { λ r. ⌜ Wrote (now (out .entry)) at (rowText (rowOf (now (row .entry)))) r (now (out .exit)) ⌝ }
 {
     let kind = row[0];
@@ -44,7 +44,7 @@ fn put_row(out: &mut [u8], at: usize, row: &[u8]) -> usize
 // Writes the line of row r.
 fn put_row_line(out: &mut [u8], at: usize, r: u8, x: &[u8]) -> usize
     requires { ⌜ length (now x) ≡ rowSize ⌝ }
-    requires { ⌜ Room at (lineText (row r (rowOf (now x)))) ⌝ }
+    requires { ⌜ Room (now out) at (lineText (row r (rowOf (now x)))) ⌝ }
     ensures { λ y. ⌜ Wrote (now (out .entry)) at (lineText (row r (rowOf (now (x .entry))))) y (now (out .exit)) ⌝ }
 {
     let p = write_text::put_head(out, at, b"[row", r as u16);
@@ -55,7 +55,7 @@ fn put_row_line(out: &mut [u8], at: usize, r: u8, x: &[u8]) -> usize
 // Writes the lines of the first rows of a store.
 pub fn put_rows(out: &mut [u8], at: usize, store: &[u8], rows: u8) -> usize
     requires { ⌜ storeSize ≤ length (now store) ⌝ }
-    requires { ⌜ Room at (collect lineText (rowLines 0 (storeProgram rows (now store)))) ⌝ }
+    requires { ⌜ Room (now out) at (collect lineText (rowLines 0 (storeProgram rows (now store)))) ⌝ }
     ensures { λ y. ⌜ Wrote (now (out .entry)) at (collect lineText (rowLines 0 (storeProgram rows (now (store .entry))))) y (now (out .exit)) ⌝ }
 {
     let mut next = at;

@@ -16,7 +16,7 @@ ghost use Rattle.write_sets.specs.Keys.{Keyed};
 // Writes the line of a set, or nothing where the set is empty.
 fn put_set_line(out: &mut [u8], at: usize, word: &[u8], n: u16, flags: &[u8]) -> usize
     requires { ⌜ length (now flags) ≤ 65536 ⌝ }
-    requires { ⌜ Room at (collect (entryText (now word)) (withEntry n (membersFrom 0 (now flags)) [])) ⌝ }
+    requires { ⌜ Room (now out) at (collect (entryText (now word)) (withEntry n (membersFrom 0 (now flags)) [])) ⌝ }
     ensures { λ r. ⌜ Wrote (now (out .entry)) at (collect (entryText (now (word .entry))) (withEntry n (membersFrom 0 (now (flags .entry))) [])) r (now (out .exit)) ⌝ }
 {
     if !has_member(flags) {
@@ -31,7 +31,7 @@ fn put_set_line(out: &mut [u8], at: usize, word: &[u8], n: u16, flags: &[u8]) ->
 pub fn put_sets(out: &mut [u8], at: usize, word: &[u8], sets: &[u8], keys: &[u8]) -> usize
     requires { ⌜ setsSize ≤ length (now sets) ⌝ }
     requires { ⌜ Keyed (now keys) (now sets) ⌝ }
-    requires { ⌜ Room at (collect (entryText (now word)) (decodeSets rowLimit 0 (now sets))) ⌝ }
+    requires { ⌜ Room (now out) at (collect (entryText (now word)) (decodeSets rowLimit 0 (now sets))) ⌝ }
     ensures { λ r. ⌜ Wrote (now (out .entry)) at (collect (entryText (now (word .entry))) (decodeSets rowLimit 0 (now (sets .entry)))) r (now (out .exit)) ⌝ }
 {
     let mut next = at;

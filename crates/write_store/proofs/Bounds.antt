@@ -1,7 +1,6 @@
 -- Crude bounds on the lengths of texts: the text of a store's document is far shorter than 2 ^ 64 bytes.
-use Prim.Native.Nat.{ℕ, zero, suc, _+_, _*_, _<_, _≤_}
+use Prim.Native.Nat.{ℕ, zero, suc, _+_, _*_, _≤_}
 use mathlib.Core.List.{List, [], _∷_}
-use mathlib.Core.Path.{_≡_}
 use native.Mathlib.Omega.{arith}
 use lib.ListN.{length, take, drop, length-append, length-take, length-drop}
 use lib.Dec.{eqb}
@@ -18,15 +17,14 @@ use Rattle.format.specs.Text.{Bytes, ascii}
 use Rattle.format.specs.Document.{Claim, Document, row, claim}
 use Rattle.format.specs.Print.{formWord, formNumbers, formText, rowText, memberText, membersText, setText, wordText, lineText, rowLines, header, documentText}
 use Rattle.format.proofs.Lengths.{digits-length, argument-length, arguments-length}
-use Rattle.calls.specs.Layout.{memberLimit, rowsSize, storeSize, membersFrom, withEntry, decodeSets, wordOf, decodeClaims, commsStart, claimsStart}
+use Rattle.calls.specs.Layout.{memberLimit, rowsSize, membersFrom, withEntry, decodeSets, wordOf, decodeClaims, commsStart, claimsStart}
 use Rattle.calls.proofs.Codec.Sparse.{either}
 use Rattle.store.proofs.Laws.{program-length}
-use Rattle.write_bytes.specs.Write.{Room}
 use Rattle.store.specs.Document.{storeDocument}
 use Rattle.write_sets.specs.Texts.{entryText}
 use Rattle.write_sets.proofs.Parts.{with-entry}
 use Rattle.write_claims.proofs.Claims.{claimsText}
-use Rattle.write_store.proofs.Parts.{document-parts, partsText, stored-parts}
+use Rattle.write_store.proofs.Parts.{document-parts}
 
 -- ---- rows
 
@@ -147,10 +145,3 @@ module _ (n : ℕ) (s : Bytes) where
       (sets-length (ascii "[comm") (omega arith) rowLimit 0 (drop commsStart s))
       (claims-length 0 codes) in
       omega (arith, all, program-length n s, shorter claimsStart s)
-
-  stored-fits : n < 256 → length s ≡ storeSize → Room 0 (documentText (storeDocument n s))
-  stored-fits h e = record { room = omega (arith, stored-bound) }
-
-  -- a store has so many bytes, and at most 255 rows are asked for
-  pub stored-room : n < 256 → length s ≡ storeSize → Room 0 (partsText n s)
-  stored-room h e = rw (stored-parts n s e) at (stored-fits h e)

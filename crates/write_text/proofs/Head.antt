@@ -12,10 +12,10 @@ module _ (word : Bytes) (n : ℕ) (rest : Bytes) where
   unfolding headText
   headed = simp append-assoc
 
-  pub room-head : {i : ℕ} → Room i (word ++ (argument n ++ (ascii " " ++ rest))) → Room i (headText word n)
+  pub room-head : {l : Bytes} {i : ℕ} → Room l i (word ++ (argument n ++ (ascii " " ++ rest))) → Room l i (headText word n)
   room-head r = room-first (headText word n) rest (rw headed r)
 
-  pub room-behind : {l m : Bytes} {i j : ℕ} → Wrote l i (headText word n) j m → Room i (word ++ (argument n ++ (ascii " " ++ rest))) → Room j rest
+  pub room-behind : {l m : Bytes} {i j : ℕ} → Wrote l i (headText word n) j m → Room l i (word ++ (argument n ++ (ascii " " ++ rest))) → Room m j rest
   room-behind w r = room-then rest w (rw headed r)
 
   pub then-behind : {l m o : Bytes} {i j k : ℕ} → Wrote l i (headText word n) j m → Wrote m j rest k o

@@ -8,7 +8,7 @@ ghost use Rattle.write_text.specs.Heads.{headText};
 
 // Writes a space and n in decimal, and returns the next position.
 pub fn put_argument(out: &mut [u8], at: usize, n: u16) -> usize
-    requires { ⌜ Room at (argument n) ⌝ }
+    requires { ⌜ Room (now out) at (argument n) ⌝ }
     ensures { λ r. ⌜ Wrote (now (out .entry)) at (argument n) r (now (out .exit)) ⌝ }
 {
     let p = put_byte(out, at, 32);
@@ -17,7 +17,7 @@ pub fn put_argument(out: &mut [u8], at: usize, n: u16) -> usize
 
 // Writes how a line begins: a word, a number and the space behind it.
 pub fn put_head(out: &mut [u8], at: usize, word: &[u8], n: u16) -> usize
-    requires { ⌜ Room at (headText (now word) n) ⌝ }
+    requires { ⌜ Room (now out) at (headText (now word) n) ⌝ }
     ensures { λ r. ⌜ Wrote (now (out .entry)) at (headText (now (word .entry)) n) r (now (out .exit)) ⌝ }
 {
     let p = put_word(out, at, word);

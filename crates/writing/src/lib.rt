@@ -7,7 +7,7 @@ ghost use Prim.Native.Nat.{_≤_};
 ghost use lib.ListN.{length, take};
 ghost use Rattle.format.specs.Print.{documentText};
 ghost use Rattle.calls.specs.Layout.{storeSize};
-ghost use Rattle.write_bytes.specs.Write.{Wrote};
+ghost use Rattle.write_bytes.specs.Write.{Room, Wrote};
 ghost use Rattle.store.specs.Document.{storeDocument};
 ghost use Rattle.write_sets.specs.Keys.{StoreKeys};
 
@@ -15,6 +15,7 @@ ghost use Rattle.write_sets.specs.Keys.{StoreKeys};
 pub fn put_document(out: &mut [u8], store: &[u8], rows: u8, names: &[u8], chans: &[u8]) -> usize
     requires { ⌜ storeSize ≤ length (now store) ⌝ }
     requires { ⌜ StoreKeys (now names) (now chans) (take storeSize (now store)) ⌝ }
+    requires { ⌜ Room (now out) 0 (documentText (storeDocument rows (take storeSize (now store)))) ⌝ }
     ensures { λ r. ⌜ Wrote (now (out .entry)) 0 (documentText (storeDocument rows (take storeSize (now (store .entry))))) r (now (out .exit)) ⌝ }
 {
     put_store(out, &store[..Store::SIZE], rows, names, chans)

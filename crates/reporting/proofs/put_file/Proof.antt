@@ -12,16 +12,13 @@ enum-known-refusal : tie.Need-enum-known-refusal
 enum-known-refusal c = search needs
 
 put-refused-requires : tie.Need-put-refused-requires
-put-refused-requires c κs =
-    let at-refusal = c .before .before in
-    let at-load = at-refusal .before .before .before .before in
-    (load-line _ _ _ (sym (at-refusal .refusal .given .1) ∙ at-load .load .ensures .answer-is), refused-room _)
+put-refused-requires c κs = (load-line _ _ _ (sym (c .before .before .refusal .given .1) ∙ c .before .before .before .before .before .before .load .ensures .answer-is), refused-room (c .before .before .before .before .before .before .before .before .before .before .before .pre .1) _)
 
 enum-told : tie.Need-enum-told
 enum-told c = search needs
 
 put-store-requires : tie.Need-put-store-requires
-put-store-requires c κs = search needs
+put-store-requires c κs = c .before .before .before .before .before .before .before .before .before .before .before .pre .1
 
 same-length : tie.Need-same-length
 same-length c = search needs
@@ -37,7 +34,7 @@ returns c =
     let start = at-load .before .before .before .before .before in
     record {
       loaded = at-load .load .ensures .bytes-are;
-      wrote = rw (refused-report _ _ _ (start .pre) (sym (at-refusal .refusal .given .1) ∙ at-load .load .ensures .answer-is)) (at-put-refused .put-refused .ensures);
+      wrote = rw (refused-report _ _ _ (start .pre .0) (sym (at-refusal .refusal .given .1) ∙ at-load .load .ensures .answer-is)) (at-put-refused .put-refused .ensures);
     }
 
 same-length-3 : tie.Need-same-length-3

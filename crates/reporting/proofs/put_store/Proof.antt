@@ -11,19 +11,13 @@ enum-known-refusal : tie.Need-enum-known-refusal
 enum-known-refusal c = search needs
 
 put-refused-requires : tie.Need-put-refused-requires
-put-refused-requires c κs =
-    let at-refusal = c .before .before in
-    let at-open = at-refusal .before .before in
-    (closed-line _ _ (rw (at-refusal .refusal .given .1) at (at-open .«open» .ensures)), refused-room _)
+put-refused-requires c κs = (closed-line _ _ (rw (c .before .before .refusal .given .1) at (c .before .before .before .before .«open» .ensures)), refused-room (c .before .before .before .before .before .before .before .pre) _)
 
 enum-known-rows : tie.Need-enum-known-rows
 enum-known-rows c = search needs
 
 put-judged-requires : tie.Need-put-judged-requires
-put-judged-requires c κs =
-    let at-rows = c .before .before in
-    let at-open = at-rows .before .before in
-    rw (at-rows .rows .given .1) at (at-open .«open» .ensures)
+put-judged-requires c κs = (rw (c .before .before .rows .given .1) at (c .before .before .before .before .«open» .ensures), c .before .before .before .before .before .before .before .pre)
 
 same-length : tie.Need-same-length
 same-length c = search needs

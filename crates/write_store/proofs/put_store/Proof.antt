@@ -1,4 +1,4 @@
--- The five writes, one after the other, are the parts of the document's text (`stored-parts`), whose length fits a usize (`stored-room`).
+-- The five writes, one after the other, are the parts of the document's text (`stored-parts`).
 use native.Mathlib.Omega.{arith}
 use borrow.Author.Needs.{needs}
 use Rattle.format.specs.Print.{header}
@@ -7,18 +7,18 @@ use Rattle.calls.specs.Layout.{rowsSize, commsStart, claimsStart}
 use Rattle.write_bytes.specs.Write.{Room}
 use Rattle.write_bytes.proofs.Writing.{then, room-first, room-then}
 use Rattle.write_store.proofs.Parts.{behind-keyed, behind-length, partsText, stored-parts}
-use Rattle.write_store.proofs.Bounds.{stored-room}
 use Rattle.write_store.proofs.put_store.Statement.{statement}
 use Rattle.write_store.proofs.put_store.Tie as tie
 
-room : (c : tie.Start) → Room 0 (partsText (c .args .rows) (c .args .store .now))
-room c = stored-room (c .args .rows) (c .args .store .now) (c .fits .rows .fits) (c .pre .0)
+room : (c : tie.Start) → Room (c .args .out .now) 0 (partsText (c .args .rows) (c .args .store .now))
+room c = rw (stored-parts (c .args .rows) (c .args .store .now) (c .pre .0)) at (c .pre .1 .1)
 
 slice-aggregate-put-word : tie.Need-slice-aggregate-put-word
 slice-aggregate-put-word c = search needs
 
 put-word-requires : tie.Need-put-word-requires
-put-word-requires c κs = search needs
+unfolding header ascii
+put-word-requires c κs = room-first _ _ (room (c .before .before .before .before .before .before))
 
 put-rows-requires : tie.Need-put-rows-requires
 unfolding header ascii
@@ -40,7 +40,7 @@ put-sets-requires : tie.Need-put-sets-requires
 unfolding header ascii
 put-sets-requires c κs = (
   omega (arith, behind-length rowsSize (c .before .before .before .before .before .before .before .before .before .before .before .before .before .before .before .before .args .store .now), c .before .before .before .before .before .before .before .before .before .before .before .before .before .before .before .before .pre .0),
-  (behind-keyed rowsSize (c .before .before .before .before .before .before .before .before .before .before .before .before .before .before .before .before .args .store .now) (c .before .before .before .before .before .before .before .before .before .before .before .before .before .before .before .before .args .names .now) (c .before .before .before .before .before .before .before .before .before .before .before .before .before .before .before .before .pre .1 .flows), room-first _ _ (room-then _ (c .before .before .before .before .before .put-rows .ensures) (room-then _ (c .before .before .before .before .before .before .before .before .before .put-word .ensures) (room (c .before .before .before .before .before .before .before .before .before .before .before .before .before .before .before .before))))),
+  (behind-keyed rowsSize (c .before .before .before .before .before .before .before .before .before .before .before .before .before .before .before .before .args .store .now) (c .before .before .before .before .before .before .before .before .before .before .before .before .before .before .before .before .args .names .now) (c .before .before .before .before .before .before .before .before .before .before .before .before .before .before .before .before .pre .1 .0 .flows), room-first _ _ (room-then _ (c .before .before .before .before .before .put-rows .ensures) (room-then _ (c .before .before .before .before .before .before .before .before .before .put-word .ensures) (room (c .before .before .before .before .before .before .before .before .before .before .before .before .before .before .before .before))))),
 )
 
 slice-aggregate-put-sets-2 : tie.Need-slice-aggregate-put-sets-2
@@ -59,7 +59,7 @@ put-sets-requires-2 : tie.Need-put-sets-requires-2
 unfolding header ascii
 put-sets-requires-2 c κs = (
   omega (arith, behind-length commsStart (c .before .before .before .before .before .before .before .before .before .before .before .before .before .before .before .before .before .before .before .before .before .before .args .store .now), c .before .before .before .before .before .before .before .before .before .before .before .before .before .before .before .before .before .before .before .before .before .before .pre .0),
-  (behind-keyed commsStart (c .before .before .before .before .before .before .before .before .before .before .before .before .before .before .before .before .before .before .before .before .before .before .args .store .now) (c .before .before .before .before .before .before .before .before .before .before .before .before .before .before .before .before .before .before .before .before .before .before .args .chans .now) (c .before .before .before .before .before .before .before .before .before .before .before .before .before .before .before .before .before .before .before .before .before .before .pre .1 .comms), room-first _ _ (room-then _ (c .before .before .before .before .before .put-sets .ensures) (room-then _ (c .before .before .before .before .before .before .before .before .before .before .before .put-rows .ensures) (room-then _ (c .before .before .before .before .before .before .before .before .before .before .before .before .before .before .before .put-word .ensures) (room (c .before .before .before .before .before .before .before .before .before .before .before .before .before .before .before .before .before .before .before .before .before .before)))))),
+  (behind-keyed commsStart (c .before .before .before .before .before .before .before .before .before .before .before .before .before .before .before .before .before .before .before .before .before .before .args .store .now) (c .before .before .before .before .before .before .before .before .before .before .before .before .before .before .before .before .before .before .before .before .before .before .args .chans .now) (c .before .before .before .before .before .before .before .before .before .before .before .before .before .before .before .before .before .before .before .before .before .before .pre .1 .0 .comms), room-first _ _ (room-then _ (c .before .before .before .before .before .put-sets .ensures) (room-then _ (c .before .before .before .before .before .before .before .before .before .before .before .put-rows .ensures) (room-then _ (c .before .before .before .before .before .before .before .before .before .before .before .before .before .before .before .put-word .ensures) (room (c .before .before .before .before .before .before .before .before .before .before .before .before .before .before .before .before .before .before .before .before .before .before)))))),
 )
 
 sub-put-claims : tie.Need-sub-put-claims
