@@ -1,7 +1,7 @@
 -- A file that load refuses has its refusal as the report, any other the report of the store that load leaves.
 use mathlib.Core.Path.{sym, _∙_}
-use Rattle.reporting.proofs.Reports.{refused-room, load-line, refused-report, loaded-report}
 use borrow.Author.Needs.{needs}
+use Rattle.reporting.proofs.Reports.{refused-room, load-line, refused-report, loaded-report}
 use Rattle.reporting.proofs.put_file.Statement.{statement}
 use Rattle.reporting.proofs.put_file.Tie as tie
 

@@ -1,6 +1,6 @@
 -- Why the store does not open, or the report of a store that does.
-use Rattle.reporting.proofs.Reports.{refused-room, closed-line, closed-text}
 use borrow.Author.Needs.{needs}
+use Rattle.reporting.proofs.Reports.{refused-room, closed-line, closed-text}
 use Rattle.reporting.proofs.put_store.Statement.{statement}
 use Rattle.reporting.proofs.put_store.Tie as tie
 
