@@ -3,7 +3,10 @@ use Prim.Native.Nat.{ℕ, _+_, _*_, _/_, _%_, _<_}
 use mathlib.Core.Path.{_≡_, sym, ap, _∙_}
 use native.Mathlib.Nat.{mod-lt, mod-eq-of-lt}
 use native.Mathlib.Omega.{arith}
+use mathlib.Core.List.{[], _∷_}
+use borrow.Author.Tests.{lt-ltb}
 use lib.Arith.{digits-div, digits-mod, mod-mul}
+use Rattle.format.specs.Text.{place, digits}
 use Rattle.write_numbers.specs.Counting.{CountedOff}
 
 -- the count is the digit, and the rest is what the place leaves for those below
@@ -23,3 +26,8 @@ module _ (n : ℕ) {high p count rest : ℕ} (e : high ≡ n % (10 * p)) (c : Co
 -- a place that the number does not reach leaves all
 pub rest-all : (n p : ℕ) {high : ℕ} → high ≡ n % (10 * p) → n < p → high ≡ n % p
 rest-all n p e h = e ∙ mod-eq-of-lt {m = 10 * p} (omega arith) ∙ sym (mod-eq-of-lt h)
+
+-- a number of one digit
+pub one-digit : (n : ℕ) → n < 10 → digits n ≡ (48 + n) ∷ []
+unfolding digits place
+one-digit n h = rw (lt-ltb n 10000 (omega arith), lt-ltb n 1000 (omega arith), lt-ltb n 100 (omega arith), lt-ltb n 10 h, mod-eq-of-lt h)

@@ -61,11 +61,15 @@ fn put_place(out: &mut [u8], at: usize, n: u16, p: u16, rest: u16) -> Placed
     }
 }
 
-// Writes n in decimal and returns the next position.
+// Writes n in decimal and returns the next position. A number of one digit is written at once.
 pub fn put_number(out: &mut [u8], at: usize, n: u16) -> usize
     requires { ⌜ Room (now out) at (digits n) ⌝ }
     ensures { λ r. ⌜ Wrote (now (out .entry)) at (digits n) r (now (out .exit)) ⌝ }
 {
+    if n < 10 {
+        let digit = (48 + n) as u8;
+        return put_byte(out, at, digit);
+    }
     let a = put_place(out, at, n, 10000, n);
     let b = put_place(out, a.next, n, 1000, a.rest);
     let c = put_place(out, b.next, n, 100, b.rest);
