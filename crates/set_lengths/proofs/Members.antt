@@ -1,4 +1,4 @@
--- The length of the members of a set, by how many of them have one, two and three digits.
+-- The length of the members of a set, by how many of them have more than one digit, and more than two.
 use Prim.Native.Nat.{ℕ, zero, suc, _+_, _-_, _*_, _<_, _≤_}
 use native.Mathlib.Omega.{arith}
 use native.Mathlib.Decide.{ℕ-discrete}
@@ -71,27 +71,47 @@ abbrev pub count : Bytes → ℕ
 count bs = length (membersFrom 0 bs)
 
 module _ (bs : Bytes) (size : length bs ≡ memberLimit) where
-  abbrev pub last : Bytes
-  last = take (length bs - 101) (drop 101 bs)
+  -- the members from a on, as the code cuts them out
+  abbrev pub past : ℕ → Bytes
+  past a = take (length bs - a) (drop a bs)
 
-  in-parts : bs ≡ take 11 bs ++ (take 90 (drop 11 bs) ++ last)
-  in-parts =
-      let rest : last ≡ drop 101 bs = take-all (length bs - 101) (drop 101 bs) (simp length-drop (omega arith)) in
-      sym (take-append-drop 11 bs) ∙ ap (λ (x : Bytes). take 11 bs ++ x) (sym (take-append-drop 90 (drop 11 bs)) ∙ rw (rest, drop-drop 90 11 bs))
+  past-is : (a : ℕ) → past a ≡ drop a bs
+  past-is a = take-all (length bs - a) (drop a bs) (simp length-drop (omega arith))
 
-  pub members-sum : count (take 11 bs) * 2 + count (take 90 (drop 11 bs)) * 3 + count last * 4 + 1 ≡ length (membersText (membersFrom 0 bs))
+  abbrev units : Bytes
+  units = take 11 bs
+
+  abbrev tens : Bytes
+  tens = take 90 (drop 11 bs)
+
+  behind-tens : drop 11 bs ≡ tens ++ drop 101 bs
+  behind-tens = sym (take-append-drop 90 (drop 11 bs)) ∙ rw (drop-drop 90 11 bs)
+
+  -- what stands from row 10 on, and all
+  more-split : membersFrom 11 (drop 11 bs) ≡ membersFrom 11 tens ++ membersFrom 101 (drop 101 bs)
+  more-split =
+      let size : length tens ≡ 90 = length-take-le 90 (drop 11 bs) (simp length-drop (omega arith)) in
+      ap (membersFrom 11) behind-tens ∙ members-append 11 tens (drop 101 bs) ∙ rw size
+
+  members-split : membersFrom 0 bs ≡ membersFrom 0 units ++ (membersFrom 11 tens ++ membersFrom 101 (drop 101 bs))
+  members-split =
+      let size : length units ≡ 11 = length-take-le 11 bs (omega arith) in
+      ap (membersFrom 0) (sym (take-append-drop 11 bs)) ∙ members-append 0 units (drop 11 bs) ∙ ap (λ (l : List ℕ). membersFrom 0 units ++ l) (rw size more-split)
+
+  pub members-sum : count bs * 2 + count (past 11) + count (past 101) + 1 ≡ length (membersText (membersFrom 0 bs))
   members-sum =
-      let one = take 11 bs in
-      let two = take 90 (drop 11 bs) in
-      let n1 : length one ≡ 11 = length-take-le 11 bs (omega arith) in
-      let n2 : length two ≡ 90 = length-take-le 90 (drop 11 bs) (simp length-drop (omega arith)) in
-      let n3 : length last ≤ 60 = simp (length-take, length-drop) (omega arith) in
-      let a = alike 1 0 one (λ k l u. member-one k (omega arith)) in
-      let b = alike 2 11 two (λ k l u. member-two k l (omega arith)) in
-      let c = alike 3 101 last (λ k l u. member-three k l (omega arith)) in
-      let split : membersFrom 0 (one ++ (two ++ last)) ≡ membersFrom 0 one ++ (membersFrom 11 two ++ membersFrom 101 last) =
-      members-append 0 one (two ++ last) ∙ ap (λ (l : List ℕ). membersFrom 0 one ++ l) (rw n1 (members-append 11 two last ∙ rw n2)) in
-      let whole = ap (λ (x : Bytes). length (membersText (membersFrom 0 x))) in-parts ∙ ap (λ (l : List ℕ). length (membersText l)) split in
-      let s = text-append (membersFrom 0 one) (membersFrom 11 two ++ membersFrom 101 last) in
-      let t = text-append (membersFrom 11 two) (membersFrom 101 last) in
-      omega (arith, whole, s, t, a, b, c, same-count 11 0 two, same-count 101 0 last)
+      let n1 : length units ≡ 11 = length-take-le 11 bs (omega arith) in
+      let n2 : length tens ≡ 90 = length-take-le 90 (drop 11 bs) (simp length-drop (omega arith)) in
+      let n3 : length (drop 101 bs) ≤ 60 = simp length-drop (omega arith) in
+      let a = alike 1 0 units (λ k l u. member-one k (omega arith)) in
+      let b = alike 2 11 tens (λ k l u. member-two k l (omega arith)) in
+      let c = alike 3 101 (drop 101 bs) (λ k l u. member-three k l (omega arith)) in
+      let s = text-append (membersFrom 0 units) (membersFrom 11 tens ++ membersFrom 101 (drop 101 bs)) in
+      let t = text-append (membersFrom 11 tens) (membersFrom 101 (drop 101 bs)) in
+      let whole = ap (λ (l : List ℕ). length (membersText l)) members-split in
+      let all = ap length members-split ∙ length-append (membersFrom 0 units) (membersFrom 11 tens ++ membersFrom 101 (drop 101 bs)) in
+      let more = length-append (membersFrom 11 tens) (membersFrom 101 (drop 101 bs)) in
+      let from11 : count (past 11) ≡ length (membersFrom 11 tens ++ membersFrom 101 (drop 101 bs)) =
+      ap count (past-is 11) ∙ same-count 0 11 (drop 11 bs) ∙ ap length more-split in
+      let from101 : count (past 101) ≡ length (membersFrom 101 (drop 101 bs)) = ap count (past-is 101) ∙ same-count 0 101 (drop 101 bs) in
+      omega (arith, whole, s, t, a, b, c, all, more, from11, from101)

@@ -1,4 +1,4 @@
-// How long the lines of sets are, by how many members have one, two and three digits; nothing is written. A set has a byte for each member, which is not 0 where the member is in the set: unit is member 0, and row r is r + 1.
+// How long the lines of sets are, by how many members have more than one digit, and more than two; nothing is written. A set has a byte for each member, which is not 0 where the member is in the set: unit is member 0, and row r is r + 1.
 use number_lengths::argument_length;
 use store::Store;
 ghost use mathlib.Core.List.{[]};
@@ -38,15 +38,15 @@ fn count_members(flags: &[u8]) -> usize
     count as usize
 }
 
-// The length of the members of a set, each with a space before it, and the closing bracket: unit and the rows below 10 take two bytes each, those below 100 three, the others four.
+// The length of the members of a set, each with a space before it, and the closing bracket: a member takes two bytes, from row 10 on one more, and from row 100 on one more again.
 fn members_length(flags: &[u8]) -> usize
     requires { ⌜ length (now flags) ≡ memberLimit ⌝ }
     ensures { λ k. ⌜ k ≡ length (membersText (membersFrom 0 (now (flags .entry)))) ⌝ }
 {
-    let two = count_members(&flags[..11]);
-    let three = count_members(&flags[11..101]);
-    let four = count_members(&flags[101..]);
-    two * 2 + three * 3 + four * 4 + 1
+    let all = count_members(flags);
+    let tens = count_members(&flags[11..]);
+    let hundreds = count_members(&flags[101..]);
+    all * 2 + tens + hundreds + 1
 }
 
 // The length of the line of a set, or 0 where the set is empty.

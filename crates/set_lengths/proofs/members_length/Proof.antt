@@ -1,18 +1,13 @@
 -- The three counts give the length (`members-sum`).
 use native.Mathlib.Omega.{arith}
-use mathlib.Core.Path.{sym}
-use lib.Seq.{length-take-le}
 use borrow.Author.Needs.{needs}
 use Rattle.set_lengths.proofs.Members.{members-sum}
 use Rattle.set_lengths.proofs.Lines.{members-short}
 use Rattle.set_lengths.proofs.members_length.Statement.{statement}
 use Rattle.set_lengths.proofs.members_length.Tie as tie
 
-slice-aggregate-count-members : tie.Need-slice-aggregate-count-members
-slice-aggregate-count-members c = sym (length-take-le 11 (c .before .before .args .flags .now) (omega (arith, c .before .before .pre)))
-
 count-members-requires : tie.Need-count-members-requires
-count-members-requires c κs = omega (arith, length-take-le 11 (c .before .before .args .flags .now) (omega (arith, c .before .before .pre)))
+count-members-requires c κs = omega (arith, c .before .pre)
 
 sub-count-members : tie.Need-sub-count-members
 sub-count-members c = search needs
@@ -39,31 +34,24 @@ count-members-requires-3 : tie.Need-count-members-requires-3
 count-members-requires-3 c κs = search needs
 
 mul-result : tie.Need-mul-result
-mul-result c = omega (arith, members-sum (c .before .before .before .before .before .before .before .args .flags .now) (c .before .before .before .before .before .before .before .pre), members-short (c .before .before .before .before .before .before .before .args .flags .now) (c .before .before .before .before .before .before .before .pre), c .before .before .before .before .count-members .ensures, c .before .before .count-members2 .ensures, c .count-members3 .ensures)
-
-mul-result-2 : tie.Need-mul-result-2
-mul-result-2 c = omega (arith, members-sum (c .before .before .before .before .before .before .before .args .flags .now) (c .before .before .before .before .before .before .before .pre), members-short (c .before .before .before .before .before .before .before .args .flags .now) (c .before .before .before .before .before .before .before .pre), c .before .before .before .before .count-members .ensures, c .before .before .count-members2 .ensures, c .count-members3 .ensures)
+mul-result c = omega (arith, members-sum (c .before .before .before .before .before .before .args .flags .now) (c .before .before .before .before .before .before .pre), members-short (c .before .before .before .before .before .before .args .flags .now) (c .before .before .before .before .before .before .pre), c .before .before .before .before .count-members .ensures, c .before .before .count-members2 .ensures, c .count-members3 .ensures)
 
 add-result : tie.Need-add-result
-add-result c = omega (arith, members-sum (c .before .before .before .before .before .before .before .args .flags .now) (c .before .before .before .before .before .before .before .pre), members-short (c .before .before .before .before .before .before .before .args .flags .now) (c .before .before .before .before .before .before .before .pre), c .before .before .before .before .count-members .ensures, c .before .before .count-members2 .ensures, c .count-members3 .ensures)
-
-mul-result-3 : tie.Need-mul-result-3
-mul-result-3 c = omega (arith, members-sum (c .before .before .before .before .before .before .before .args .flags .now) (c .before .before .before .before .before .before .before .pre), members-short (c .before .before .before .before .before .before .before .args .flags .now) (c .before .before .before .before .before .before .before .pre), c .before .before .before .before .count-members .ensures, c .before .before .count-members2 .ensures, c .count-members3 .ensures)
+add-result c = omega (arith, members-sum (c .before .before .before .before .before .before .args .flags .now) (c .before .before .before .before .before .before .pre), members-short (c .before .before .before .before .before .before .args .flags .now) (c .before .before .before .before .before .before .pre), c .before .before .before .before .count-members .ensures, c .before .before .count-members2 .ensures, c .count-members3 .ensures)
 
 add-result-2 : tie.Need-add-result-2
-add-result-2 c = omega (arith, members-sum (c .before .before .before .before .before .before .before .args .flags .now) (c .before .before .before .before .before .before .before .pre), members-short (c .before .before .before .before .before .before .before .args .flags .now) (c .before .before .before .before .before .before .before .pre), c .before .before .before .before .count-members .ensures, c .before .before .count-members2 .ensures, c .count-members3 .ensures)
+add-result-2 c = omega (arith, members-sum (c .before .before .before .before .before .before .args .flags .now) (c .before .before .before .before .before .before .pre), members-short (c .before .before .before .before .before .before .args .flags .now) (c .before .before .before .before .before .before .pre), c .before .before .before .before .count-members .ensures, c .before .before .count-members2 .ensures, c .count-members3 .ensures)
 
 add-result-3 : tie.Need-add-result-3
-add-result-3 c = omega (arith, members-sum (c .before .before .before .before .before .before .before .args .flags .now) (c .before .before .before .before .before .before .before .pre), members-short (c .before .before .before .before .before .before .before .args .flags .now) (c .before .before .before .before .before .before .before .pre), c .before .before .before .before .count-members .ensures, c .before .before .count-members2 .ensures, c .count-members3 .ensures)
+add-result-3 c = omega (arith, members-sum (c .before .before .before .before .before .before .args .flags .now) (c .before .before .before .before .before .before .pre), members-short (c .before .before .before .before .before .before .args .flags .now) (c .before .before .before .before .before .before .pre), c .before .before .before .before .count-members .ensures, c .before .before .count-members2 .ensures, c .count-members3 .ensures)
 
 returns : tie.Need-returns
-returns c = omega (arith, members-sum (c .before .before .before .before .before .before .before .args .flags .now) (c .before .before .before .before .before .before .before .pre), members-short (c .before .before .before .before .before .before .before .args .flags .now) (c .before .before .before .before .before .before .before .pre), c .before .before .before .before .count-members .ensures, c .before .before .count-members2 .ensures, c .count-members3 .ensures)
+returns c = omega (arith, members-sum (c .before .before .before .before .before .before .args .flags .now) (c .before .before .before .before .before .before .pre), members-short (c .before .before .before .before .before .before .args .flags .now) (c .before .before .before .before .before .before .pre), c .before .before .before .before .count-members .ensures, c .before .before .count-members2 .ensures, c .count-members3 .ensures)
 
 pub members-length-spec : {M : Type 1} → statement M
 members-length-spec =
     tie.close
     (tie.spec
-    slice-aggregate-count-members
     count-members-requires
     sub-count-members
     part-count-members-start
@@ -74,9 +62,7 @@ members-length-spec =
     part-count-members-end-2
     count-members-requires-3
     mul-result
-    mul-result-2
     add-result
-    mul-result-3
     add-result-2
     add-result-3
     returns)
