@@ -13,11 +13,6 @@ use workbench::layout::LIMIT;
 /// bytes of a set, for its place in a store, and the hundreds of a number read.
 const FACTORS: [u64; 2] = [LIMIT as u64 + 1, 100];
 
-/// What the compiler multiplies by to count the bits of a few flags: the first spreads
-/// the bits, the second adds them up. Only the crate that counts members has it.
-const COUNTING: [u64; 2] = [0x0804_0201, 0x1111_1111];
-const COUNTER: &str = "set_lengths::";
-
 /// The crates that write numbers and have functions of their own as compiled.
 const WRITERS: [&str; 3] = ["write_numbers::", "write_text::", "report_lines::"];
 
@@ -62,9 +57,7 @@ fn divisions(disassembly: &str) -> Vec<String> {
             continue;
         };
         let (name, operands) = instruction.split_once(' ').unwrap_or((instruction, ""));
-        let allowed = factor(operands.trim()).is_some_and(|factor| {
-            FACTORS.contains(&factor) || function.starts_with(COUNTER) && COUNTING.contains(&factor)
-        });
+        let allowed = factor(operands.trim()).is_some_and(|factor| FACTORS.contains(&factor));
         let shifts = ["shr", "sar", "psrl", "psra"]
             .iter()
             .any(|&shift| name.contains(shift));
