@@ -1,6 +1,6 @@
 /* The channel checker's calls as C functions, for x86-64; C99 or later, or C++.
  *
- * Build: rt staticlib dispenser_c; link target/staticlib/libdispenser_c.a. The
+ * Build: rt lib in crates/dispenser_c; link libdispenser_c.a of its folder out. The
  * library needs memcpy, memset and the like, and nothing else: it has no globals and
  * no heap, and keeps no pointer. So calls may run at the same time in several
  * threads, on different stores, or on one store that all of them only read. A store

@@ -127,7 +127,7 @@ fn make_says_what_is_missing() {
         let output = make(&[goal, place, "LIBRARY=none.a"]);
         assert!(!output.status.success(), "{goal}");
         let told = String::from_utf8(output.stderr).unwrap();
-        assert!(told.contains("rt staticlib dispenser_c"), "{told}");
+        assert!(told.contains("run 'rt lib' in the"), "{told}");
     }
     let output = make(&["install", "PREFIX=here"]);
     assert!(!output.status.success());
@@ -159,7 +159,7 @@ fn what_is_installed_compiles_by_its_pkg_config_file() {
     made_well(&["install", &place]);
     for (installed, of) in [
         ("include/dispenser.h", "include/dispenser.h"),
-        ("lib/libdispenser_c.a", "target/staticlib/libdispenser_c.a"),
+        ("lib/libdispenser_c.a", "crates/dispenser_c/out/libdispenser_c.a"),
     ] {
         let [installed, of] = [prefix.join(installed), of_repository(of)];
         assert_eq!(

@@ -16,11 +16,9 @@ const FACTORS: [u64; 2] = [LIMIT as u64 + 1, 100];
 /// The crates that write numbers and have functions of their own as compiled.
 const WRITERS: [&str; 3] = ["write_numbers::", "write_text::", "report_lines::"];
 
-/// A file below the repository's `target`.
-fn built(name: &str) -> PathBuf {
-    Path::new(env!("CARGO_MANIFEST_DIR"))
-        .join("../target")
-        .join(name)
+/// The crates of the repository.
+fn crates() -> PathBuf {
+    Path::new(env!("CARGO_MANIFEST_DIR")).join("../crates")
 }
 
 fn disassemble(file: &Path) -> String {
@@ -87,17 +85,21 @@ fn assert_none(file: &Path) {
 
 #[test]
 fn library_has_no_division() {
-    assert_none(&built("staticlib/libdispenser_c.a"));
+    assert_none(&crates().join("dispenser_c/out/libdispenser_c.a"));
 }
 
 #[test]
 fn programs_have_no_division() {
     assert!(
-        built("bin/dispenser").is_file(),
-        "the program is missing: run `rt check dispenser` at the repository's root"
+        crates().join("dispenser/out/dispenser").is_file(),
+        "the program is missing: run `rt run` in crates/dispenser"
     );
-    for program in std::fs::read_dir(built("bin")).unwrap() {
-        assert_none(&program.unwrap().path());
+    for folder in std::fs::read_dir(crates()).unwrap() {
+        let folder = folder.unwrap();
+        let program = folder.path().join("out").join(folder.file_name());
+        if program.is_file() {
+            assert_none(&program);
+        }
     }
 }
 

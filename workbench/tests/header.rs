@@ -43,7 +43,7 @@ fn the_header_compiles_alone() {
 fn several_files_of_a_program_include_the_header() {
     // The library's functions are found from C++ too.
     let [first, second] = ["first.c", "second.c"].map(made);
-    let library = of_repository("target/staticlib/libdispenser_c.a");
+    let library = of_repository("crates/dispenser_c/out/libdispenser_c.a");
     let declared = "#include \"dispenser.h\"\nsize_t size(int number);\n";
     let calls = "int main(void) { return !*dispenser_text(0) || size(0) != DISPENSER_STORE_SIZE; }";
     let defined =

@@ -11,7 +11,7 @@ fn root() -> PathBuf {
 
 /// Runs the program on some bytes of standard input.
 fn run(arguments: &[&str], input: &[u8]) -> Output {
-    let program = root().join("target/bin/dispenser");
+    let program = root().join("crates/dispenser/out/dispenser");
     let mut child = Command::new(&program)
         .args(arguments)
         .stdin(Stdio::piped())
@@ -20,7 +20,7 @@ fn run(arguments: &[&str], input: &[u8]) -> Output {
         .spawn()
         .unwrap_or_else(|error| {
             panic!(
-                "{}: {error}; `rt check dispenser` makes it",
+                "{}: {error}; `rt run` in crates/dispenser makes it",
                 program.display()
             )
         });

@@ -136,7 +136,7 @@ const TAKEN: [&str; 4] = ["memcpy", "memmove", "memset", "memcmp"];
 fn the_library_has_no_globals_and_takes_nothing_but_copying() {
     let library = concat!(
         env!("CARGO_MANIFEST_DIR"),
-        "/../target/staticlib/libdispenser_c.a"
+        "/../crates/dispenser_c/out/libdispenser_c.a"
     );
     let nm = Command::new("nm").arg(library).output();
     let nm = nm.expect("nm, which comes with gcc");

@@ -1,4 +1,6 @@
 // A file loaded and judged at once. The contract has demand 3 in it: what an accepted file's runs do.
+#![tactic(auto)]
+
 ghost use Rattle.accepting.specs.Accepting.{Accepts};
 
 use calls::{JudgeAnswer, LoadAnswer};

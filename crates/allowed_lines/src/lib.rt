@@ -1,4 +1,6 @@
 // What the flow, comm and claim lines may name, as flags; and checking the lines of a part, one by one.
+#![tactic(auto)]
+
 ghost use Rattle.std.specs.Prelude.{◌≡◌, ◌+◌, ◌*◌, ◌≤◌, length, drop, take};
 ghost use Rattle.program.specs.Program.{is_value, chan_row, is_chan};
 ghost use Rattle.format.specs.Limits.{row_limit, line_limit};
@@ -84,6 +86,7 @@ fn chan_row(row: Row) -> u8
 }
 
 // The members that a set may have: unit, and the value rows.
+#[tactic(auto, using(crate::proofs::Sets::members_none, crate::proofs::Sets::members_more, crate::proofs::Rulesets::allowed_members_facts))]
 pub fn allowed_members(store: &[u8], rows: u8) -> [u8; Store::MEMBERS]
     requires { rows ≤ row_limit }
     ensures { Tells (member_allowed (store_program rows store.now)) result }
@@ -99,6 +102,7 @@ pub fn allowed_members(store: &[u8], rows: u8) -> [u8; Store::MEMBERS]
 }
 
 // The chan rows.
+#[tactic(auto, using(crate::proofs::Sets::chans_none, crate::proofs::Sets::chans_more, crate::proofs::Rulesets::chan_rows_facts))]
 pub fn chan_rows(store: &[u8], rows: u8) -> [u8; Store::ROWS]
     requires { rows ≤ row_limit }
     ensures { Tells (chan_row (store_program rows store.now)) result }
@@ -127,6 +131,7 @@ fn member_code(mark: u8, allowed: u8) -> u8
 
 // The set at a position: 0 if it has no member, 1 if all its members are allowed, 2 if one is not. Every member is looked at, so that
 // the loop takes many bytes at a time.
+#[tactic(auto, using(crate::proofs::Sets::set_start, crate::proofs::Sets::set_step, crate::proofs::Sets::set_end))]
 fn set_code(store: &[u8], at: usize, members: &[u8]) -> u8
     requires at_le_store_size { at ≤ store_size }
     requires member_limit_in_bounds { (at + member_limit ≤ length store.now) × (member_limit ≤ length members.now) }
@@ -143,6 +148,7 @@ fn set_code(store: &[u8], at: usize, members: &[u8]) -> u8
 }
 
 // The set of name or channel n, where the sets begin at base: 0 if it has no member, 1 if its key and its members are allowed, 2 if one is not.
+#[tactic(auto, using(crate::proofs::Sets::code_other, crate::proofs::Sets::code_key))]
 fn line_code(store: &[u8], base: usize, n: usize, keys: &[u8], members: &[u8]) -> u8
     requires member_limit_bound { base + n * member_limit ≤ store_size }
     requires member_limit_in_bounds { (base + n * member_limit + member_limit ≤ length store.now) × (member_limit ≤ length members.now) }
@@ -167,6 +173,7 @@ pub enum Lines {
 }
 
 // Checks the sets that begin at base, each of which is a line if it has members; the first line is given.
+#[tactic(auto, using(crate::proofs::Checking::sets_none, crate::proofs::Checking::sets_failing, crate::proofs::Checking::sets_passing, crate::proofs::Checking::sets_end))]
 pub fn check_sets(store: &[u8], base: usize, line: usize, keys: &[u8], members: &[u8]) -> Lines
     requires base_le_comms_start { base ≤ comms_start }
     requires line_le_line_limit { line ≤ line_limit }
@@ -190,6 +197,7 @@ pub fn check_sets(store: &[u8], base: usize, line: usize, keys: &[u8], members: 
 }
 
 // Checks the claims, each of which is a line; the first line is given.
+#[tactic(auto, using(crate::proofs::Checking::claims_none, crate::proofs::Checking::claims_failing, crate::proofs::Checking::claims_passing, crate::proofs::Checking::claims_end))]
 pub fn check_claims(store: &[u8], line: usize, keys: &[u8]) -> Lines
     requires { line ≤ line_limit }
     ensures { result ≡ checked (claim_marked keys.now) line (decode_claims 0 (take row_limit (drop (claims_start) store.now))) }

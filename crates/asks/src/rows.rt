@@ -11,6 +11,7 @@ use results::result_rows;
 use store::Store;
 
 // The name of a row: that of a result, or the one that a bind binds.
+#[tactic(auto, unfolding(program::specs::Program::name_of))]
 fn name_of(row: Row) -> u8
     ensures { result ≡ name_of row }
 {

@@ -13,7 +13,7 @@ use program::Form;
 use sets::{flow_lies, flow_set};
 
 // What a form asks of each row in its set: its kind, and the names whose sets it compares with that of the row.
-#[derive(Drop)]
+#[derive(Clone, Copy)]
 pub enum Ask {
     First,
     Second,
@@ -39,6 +39,7 @@ fn both_lie(store: &[u8], rows: u8, a: u8, x: u8, n: u8, to: &[u8]) -> bool
 }
 
 // Whether row k passes a first: a pair's first name.
+#[tactic(auto, using(forms::proofs::Forms::pair_at_lem, forms::proofs::Forms::no_pair), unfolding(crate::specs::Asks::asks, program::specs::Maybe::when))]
 fn first_passes(store: &[u8], rows: u8, k: u8, to: &[u8]) -> bool
     requires { Sized rows store.now }
     ensures { result ≡ store_asks rows store.now Ask.First (set_of to.now) k }
@@ -50,6 +51,7 @@ fn first_passes(store: &[u8], rows: u8, k: u8, to: &[u8]) -> bool
 }
 
 // Whether row k passes a second: a pair's second name.
+#[tactic(auto, using(forms::proofs::Forms::pair_at_lem, forms::proofs::Forms::no_pair), unfolding(crate::specs::Asks::asks, program::specs::Maybe::when))]
 fn second_passes(store: &[u8], rows: u8, k: u8, to: &[u8]) -> bool
     requires { Sized rows store.now }
     ensures { result ≡ store_asks rows store.now Ask.Second (set_of to.now) k }
@@ -61,6 +63,7 @@ fn second_passes(store: &[u8], rows: u8, k: u8, to: &[u8]) -> bool
 }
 
 // Whether row k passes a case: the branch of a left or a right.
+#[tactic(auto, using(forms::proofs::Forms::left_at_lem, forms::proofs::Forms::right_at_lem, forms::proofs::Forms::no_left, forms::proofs::Forms::no_right), unfolding(crate::specs::Asks::asks, program::specs::Maybe::when))]
 fn case_passes(
     store: &[u8],
     rows: u8,
@@ -82,6 +85,7 @@ fn case_passes(
 }
 
 // Whether row k passes an apply: a function's parameter and its result.
+#[tactic(auto, using(forms::proofs::Forms::fun_at_lem, forms::proofs::Forms::no_fun), unfolding(crate::specs::Asks::asks, program::specs::Maybe::when, crate::specs::Asks::Names))]
 fn apply_passes(store: &[u8], rows: u8, argument: u8, names: &[u8], k: u8, to: &[u8]) -> bool
     requires sized { Sized rows store.now }
     requires names { Names (store_program rows store.now) names.now }
@@ -148,6 +152,7 @@ fn member_passes(
 }
 
 // Whether each row in the set of name a passes what a form asks.
+#[tactic(auto, using(crate::proofs::Asked::each_holds, crate::proofs::Asked::each_fails), unfolding(program::specs::Test::all))]
 pub fn each_passes(store: &[u8], rows: u8, ask: Ask, names: &[u8], a: u8, to: &[u8]) -> bool
     requires sized { Sized rows store.now }
     requires names { Names (store_program rows store.now) names.now }

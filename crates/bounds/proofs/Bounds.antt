@@ -18,7 +18,7 @@ use Rattle.program.specs.Each.{Each, nil, ◌&◌}
 use Rattle.format.specs.declared.Reason.{Reason}
 use Rattle.format.specs.declared.Reason.TheVariants.{NotALine, OutOfCount, WrongPointer, BoundTwice, OutOfScope, NotAllowed, StoreTooShort, StoreEmpty, StoreUnsound, FlowRuleFails}
 use Rattle.format.specs.declared.Refusal.{Refusal}
-use Rattle.format.specs.Limits.{row_limit, byte_limit, line_limit}
+use Rattle.format.specs.Limits.{row_limit, byte_limit}
 use Rattle.format.specs.Text.{Bytes, expect}
 use Rattle.format.specs.Print.{header}
 use Rattle.format.specs.Document.{Entry, Document, Line}
@@ -29,6 +29,7 @@ use Rattle.format.specs.Scope.{scope_fault}
 use Rattle.format.specs.WellFormed.{orderly, well_formed}
 use Rattle.format.specs.Check.{check_structure, check_any, check}
 use Rattle.format.proofs.Files.{print_read, check_iff}
+pub use Rattle.bounds.specs.LastLine.{last_line}
 use Rattle.calls.specs.Answers.{Answer, turned_back, answered, refusal_answer, load_answer, judge_answer, yes_or_no, status_answer, verdict_answer}
 use Rattle.calls.specs.Layout.{rows_size, member_limit, sets_size, store_size, encode, decode, members_from, with_entry, decode_sets, decode_claims}
 use Rattle.calls.specs.Judging.{verdict_words, word_holds, reaches, flow_table, comm_table, failing_row, failing_claim, after10, judge_claims, judge_document, verdict_document}
@@ -147,10 +148,6 @@ first_below ok line (x ∷ xs) = go (ok x) (first_failing ok (line + 1) xs) (fir
 scope_below : (d : Document) → Found (λ r. r < length d.rows) (scope_line d.rows)
 unfolding scope_line
 scope_below d = either (ltb (scope_fault d.rows) (length d.rows)) (λ e. rw e (found (ltb-true _ _ e))) (λ e. rw e nothing)
-
--- the last line that a document can have: the first line, and at most one of each kind for each row number
-abbrev pub last_line : ℕ
-last_line = 1 + line_limit
 
 abbrev Early : Refusal → Type 0
 Early r = r.line ≤ last_line

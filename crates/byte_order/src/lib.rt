@@ -1,4 +1,6 @@
 // The larger and the smaller of two bytes. Loops that look at every byte are made of these, so that they take many at a time.
+#![tactic(auto)]
+
 ghost use Rattle.std.specs.Prelude.{◌≡◌, min, max};
 
 // The larger number.

@@ -1,4 +1,6 @@
 // Tests of all bytes of a slice.
+#![tactic(auto)]
+
 ghost use Rattle.std.specs.Prelude.{◌≡◌, ltb, eqb};
 ghost use Rattle.program.specs.Each.{every};
 

@@ -1,4 +1,6 @@
 // The byte and the digit that stand at a position of a slice.
+#![tactic(auto)]
+
 ghost use Rattle.std.specs.Prelude.{◌≡◌};
 ghost use Rattle.format.specs.Text.{byte_at, digit_at};
 
@@ -10,6 +12,7 @@ pub fn byte_at(s: &[u8], at: usize) -> u8
 }
 
 // The value of the decimal digit at a position, and 10 where there is none.
+#[tactic(auto, unfolding(format::specs::Text::digit_at, format::specs::Text::digit_of))]
 pub fn digit_at(s: &[u8], at: usize) -> u16
     ensures { result ≡ digit_at s.now at }
 {

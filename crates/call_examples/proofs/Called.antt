@@ -1,6 +1,6 @@
 -- Verdict and write on the stores that load leaves of example A and its variants, and what the program prints of them.
 use Prim.Native.Nat.{ℕ, pred}
-use mathlib.Core.List.{List, [], ◌∷◌, ◌++◌, map}
+use mathlib.Core.List.{[], ◌∷◌, ◌++◌, map}
 use mathlib.Core.Path.{◌≡◌, refl}
 use lib.ListN.{replicate, set}
 use Rattle.format.specs.Refusals

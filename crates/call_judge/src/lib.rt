@@ -1,4 +1,6 @@
 // The call judge.
+#![tactic(auto)]
+
 ghost use Rattle.calls.specs.Calls.{Leaves, judge, unaltered};
 
 use calls::JudgeAnswer;

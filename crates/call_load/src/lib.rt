@@ -1,4 +1,6 @@
 // The call load.
+#![tactic(auto)]
+
 ghost use Rattle.calls.specs.Calls.{Leaves, load};
 
 use calls::LoadAnswer;

@@ -1,4 +1,6 @@
 // The call preview: what judge would answer with a set that is handed over in the place of a name's.
+#![tactic(auto)]
+
 ghost use Rattle.calls.specs.Calls.{Leaves, unaltered};
 ghost use Rattle.replacement.specs.Replacement.{preview};
 

@@ -1,4 +1,6 @@
 // The call replace: a set that is handed over put in the place of a name's.
+#![tactic(auto)]
+
 ghost use Rattle.calls.specs.Calls.{Leaves};
 ghost use Rattle.replacement.specs.Replacement.{replace};
 

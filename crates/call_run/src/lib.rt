@@ -1,4 +1,6 @@
 // The run calls, with the thread records by value: the answer, and what is left of run memory and records.
+#![tactic(auto)]
+
 ghost use Rattle.std.specs.Prelude.{◌≡◌, ◌≤◌, length};
 ghost use Rattle.machine.specs.Machine.{alone, together, changes};
 ghost use Rattle.run_memory.specs.RunMemory.{run_size, InLimits, machine_in};
@@ -18,6 +20,7 @@ use thread_changes::change;
 use thread_records::{Records, record_at, with_record};
 
 // Thread 0 at row 0, and nothing else in use.
+#[tactic(auto, unfolding(run_calls::specs::RunCalls::begun_in))]
 fn begin_rows(run: &mut [u8], records: Records) -> Moved
     requires { run_size ≤ length run.old }
     ensures { LeavesRun (begun_in run.old records.list) result.answer run.new result.records.list }

@@ -1,4 +1,6 @@
 // The call verdict.
+#![tactic(auto)]
+
 ghost use Rattle.calls.specs.Calls.{Leaves, verdict, unaltered};
 
 use calls::VerdictAnswer;

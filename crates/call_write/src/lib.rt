@@ -1,4 +1,6 @@
 // The call write.
+#![tactic(auto)]
+
 ghost use Rattle.calls.specs.Calls.{Leaves, write};
 
 use calls::WriteAnswer;

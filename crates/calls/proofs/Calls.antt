@@ -35,7 +35,7 @@ use Rattle.calls.specs.declared.LoadAnswer.{LoadAnswer}
 use Rattle.calls.specs.declared.JudgeAnswer.{JudgeAnswer}
 use Rattle.calls.specs.declared.WriteAnswer.{WriteAnswer}
 use Rattle.calls.specs.declared.VerdictStatus.{VerdictStatus}
-use Rattle.calls.specs.Layout.{store_size, encode, decode, same}
+use Rattle.calls.specs.Layout.{store_size, encode, decode}
 use Rattle.calls.specs.Judging.{verdict_words, flow_table, comm_table, word_holds, WordHolds, reaches, failing_row, after10, judge_document, verdict_document}
 use Rattle.calls.specs.Calls.{Outcome, unsound, is_empty, opened_fixed, opened, counts, refilled, loaded, stored, load, judge_answered, and_then, judge, verdict_of, verdict_given, verdict, written, write}
 use Rattle.calls.proofs.Codec.{encode-length, decode-encode, unsound_iff, opened_encode}

@@ -1,5 +1,5 @@
 -- Judge and verdict of any store are as specs/Exact says: what opening it finds, then what the document's flow rules and claims say.
-use Prim.Native.Nat.{ℕ, zero, suc, ◌+◌}
+use Prim.Native.Nat.{ℕ, zero, suc}
 use native.Mathlib.Omega.{arith}
 use mathlib.Core.Bool.{Bool, true, false, So, false≢true}
 use mathlib.Core.List.{List, [], ◌∷◌, ◌++◌, map}

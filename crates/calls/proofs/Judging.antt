@@ -1,6 +1,6 @@
 -- Judge is exact: what it answers of a well-formed document, case by case.
 use Prim.Native.Nat.{ℕ, ◌+◌, ◌<◌}
-use mathlib.Core.Bool.{true, false, not, So, false≢true}
+use mathlib.Core.Bool.{false, not, So, false≢true}
 use mathlib.Core.List.{List, [], ◌∷◌, ◌++◌}
 use mathlib.Core.Option.{Option, none, some}
 use mathlib.Core.Path.{◌≡◌, refl, sym, ap, ◌∙◌, subst}

@@ -1,4 +1,6 @@
 // The answers of the four calls. `specs/Answers` gives document 01's numbers and values of each case.
+#![tactic(auto)]
+
 use format::Refusal;
 
 // The counts of row, flow, comm and claim lines.

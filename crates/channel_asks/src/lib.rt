@@ -1,4 +1,6 @@
 // What a sync asks of the channels of a send row: that they hold the set of its message.
+#![tactic(auto)]
+
 ghost use Rattle.std.specs.Prelude.{◌&&◌, ◌≡◌, ◌≤◌, min, length};
 ghost use Rattle.program.specs.Flow.{lies, for_each_chan};
 ghost use Rattle.calls.specs.Layout.{member_limit};
@@ -29,6 +31,7 @@ fn meet(set: &mut [u8], other: &[u8])
 }
 
 // A set that every channel holds, by the list of the chan rows.
+#[tactic(auto, using(crate::proofs::Channels::holding_more, crate::proofs::Channels::holding_all, crate::proofs::Channels::none_held))]
 fn held_by_all(store: &[u8], rows: u8, chans: &[u8]) -> [u8; Store::MEMBERS]
     requires sized { Sized rows store.now }
     requires lists { Lists rows (of_kind store.now chan_kind) chans.now }
@@ -61,6 +64,7 @@ fn chan_holds(store: &[u8], rows: u8, given: bool, set: &[u8], k: u8) -> bool
 }
 
 // Whether each channel in a set is so, by the list of the chan rows.
+#[tactic(auto, using(crate::proofs::Channels::each_passes, crate::proofs::Channels::one_fails))]
 fn chans_hold(store: &[u8], rows: u8, chans: &[u8], given: bool, from: &[u8], set: &[u8]) -> bool
     requires sized { Sized rows store.now }
     requires lists { Lists rows (of_kind store.now chan_kind) chans.now }

@@ -1,4 +1,6 @@
 // The lines of a report about the chan rows of a store, written at a position.
+#![tactic(auto)]
+
 ghost use Rattle.std.specs.Prelude.{◌≤◌, length, ◌≡◌};
 ghost use Rattle.program.specs.Verdict.{reach};
 ghost use Rattle.format.specs.Limits.{row_limit};

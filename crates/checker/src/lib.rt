@@ -1,4 +1,6 @@
 // The checker's calls, each of a crate of its own. None has a `requires`.
+#![tactic(auto)]
+
 pub use call_infer::infer;
 pub use call_judge::judge;
 pub use call_load::load;

@@ -1,4 +1,6 @@
 // How long the lines of claims are; nothing is written.
+#![tactic(auto)]
+
 ghost use Rattle.std.specs.Prelude.{[], ◌∷◌, map, ◌≡◌, ◌≤◌, length};
 ghost use Rattle.program.specs.Each.{collect};
 ghost use Rattle.format.specs.Text.{ascii};
@@ -23,6 +25,7 @@ fn word_length(code: u8) -> usize
 }
 
 // The length of the line of a claim on row c, or 0 where the code is 0.
+#[tactic(auto, using(write_store::proofs::Bounds::word_length, crate::proofs::Claims::claim_sum, crate::proofs::Rulesets::claim_length_facts), unfolding(program::specs::Each::collect, calls::specs::Layout::decode_claims))]
 fn claim_length(c: u8, code: u8) -> usize
     ensures { result ≡ length (collect line_text (map claim (decode_claims c (code ∷ [])))) }
 {
@@ -35,6 +38,7 @@ fn claim_length(c: u8, code: u8) -> usize
 }
 
 // The length of the lines of the claims, of which each row has a code.
+#[tactic(auto, using(write_store::proofs::Bounds::claims_length, number_lengths::proofs::Sums::onward, number_lengths::proofs::Sums::within, number_lengths::proofs::Sums::finished, crate::proofs::Claims::from_next, crate::proofs::Claims::from_end))]
 pub fn claims_length(codes: &[u8]) -> usize
     requires { length codes.now ≤ 256 }
     ensures { result ≡ length (collect line_text (map claim (decode_claims 0 codes.now))) }

@@ -1,4 +1,6 @@
 // The words of a claim: the word of its code in the store, and what a word says, by what is found at the two ends of a channel.
+#![tactic(auto)]
+
 ghost use Rattle.std.specs.Prelude.{not, ◌&&◌, ◌≡◌};
 ghost use Rattle.program.specs.Verdict.{says};
 ghost use Rattle.calls.specs.Layout.{word_of};
@@ -6,6 +8,7 @@ ghost use Rattle.calls.specs.Layout.{word_of};
 use program::{Facts, Word};
 
 // The word of a claim's code in the store; every code but these five is that of many.
+#[tactic(auto, unfolding(calls::specs::Layout::word_of))]
 pub fn word_of(code: u8) -> Word
     ensures { result ≡ word_of code }
 {
@@ -30,6 +33,7 @@ fn neither(a: bool, b: bool) -> bool
 }
 
 // What a word says, by what is found at the two ends of a channel.
+#[tactic(auto, unfolding(program::specs::Verdict::says))]
 pub fn says(word: Word, found: Facts) -> bool
     ensures { result ≡ says word found }
 {

@@ -1,4 +1,6 @@
 // The claims of a store, judged in turn over a grid of which rows reach which.
+#![tactic(auto)]
+
 ghost use Rattle.std.specs.Prelude.{◌≡◌, ◌≤◌, length};
 ghost use Rattle.program.specs.Verdict.{reach};
 ghost use Rattle.format.specs.Limits.{row_limit};

@@ -1,40 +1,52 @@
 // Reads a task file from standard input and prints its report: the count of its claims and each channel's verdict, or its refusal.
+#![tactic(auto)]
+
 use calls::WriteAnswer;
 use lent_sizes::REPORT_BYTES;
+use std::env::{Env, FillError};
 use store::Store;
 
 // The program takes no arguments: given any, it says on standard error how it is used, and reads nothing.
-fn main() {
-    if 1 < os::arg_count() {
-        print_usage();
+fn main(rt: HostRuntime) {
+    if has_argument(&rt) {
+        print_usage(&rt);
     } else {
-        report_input();
+        report_input(&rt);
     }
 }
 
-fn print_usage() {
-    io::write_all(
-        2,
-        b"usage: dispenser < FILE\nReads a task file from standard input and prints its verdicts, or [refused NUMBER LINE].\nThe exit status is always 0; channel-check explains refusals and has an exit status.\n",
+// Whether an argument comes behind the program's name: also an empty one, and one that is longer than the byte lent.
+fn has_argument(rt: &impl Env) -> bool {
+    let mut start = [0u8; 1];
+    match rt.arg(1, &mut start) {
+        Err(FillError::NotPresent) => false,
+        _ => true,
+    }
+}
+
+// Here and where the report is printed, the exit status stays 0 if a write fails.
+fn print_usage(rt: &impl Eprint) {
+    let _ = rt.eprint(
+        "usage: dispenser < FILE\nReads a task file from standard input and prints its verdicts, or [refused NUMBER LINE].\nThe exit status is always 0; channel-check explains refusals and has an exit status.\n",
     );
 }
 
 // A longer file than may be loaded is read by one byte more, which is enough to refuse it.
-fn report_input() {
+fn report_input(rt: &(impl Input + Print)) {
     let mut file = [0u8; Store::FILE_BYTES + 1];
     let mut store = [0u8; Store::SIZE];
     let mut out = [0u8; REPORT_BYTES];
-    let n = io::read_full(0, &mut file);
+    let n = reading::read_full(&mut rt.reader(), &mut file);
     let answer = reporting::report(&file[..n], &mut store, &mut out);
-    print_written(answer, &out);
+    print_written(rt, answer, &out);
 }
 
 // The bytes written. Store and output are long enough, so that there is always a report.
-fn print_written(answer: WriteAnswer, out: &[u8]) {
+fn print_written(rt: &impl Print, answer: WriteAnswer, out: &[u8]) {
     match answer {
         WriteAnswer::Written(length) => {
             if length <= out.len() {
-                io::write_all(1, &out[..length]);
+                let _ = rt.write_all(&out[..length]);
             }
         }
         WriteAnswer::Refused(_) => {}

@@ -1,5 +1,7 @@
 // The checker's calls as C functions on numbers, byte slices and a list of thread records; `include/dispenser.h` declares them.
 // A slice is a pointer and a length. An answer is one number, packed as `Packing` of crate packing says.
+#![tactic(auto)]
+
 ghost use Rattle.std.specs.Prelude.{◌≡◌, ltb};
 ghost use Rattle.calls.specs.Layout.{store_size};
 ghost use Rattle.calls.specs.Calls.{load, judge, verdict, write};

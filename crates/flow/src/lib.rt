@@ -1,4 +1,6 @@
 // The flow rules over the sets of a store: the smallest row whose rule fails.
+#![tactic(auto)]
+
 ghost use Rattle.std.specs.Prelude.{true, false, not, ◌≡◌, ◌≤◌, length};
 ghost use Rattle.program.specs.Test.{least};
 ghost use Rattle.program.specs.Flow.{keeps_at};
@@ -19,6 +21,7 @@ use row_lists::{CHAN, SEND, rows_of_kind};
 use store::NO_ROW;
 
 // Whether row r keeps the rule of its form; a result has none.
+#[tactic(auto, unfolding(program::specs::Flow::keeps_at, program::specs::Program::bind_at, program::specs::Program::bind_of, program::specs::Maybe::when))]
 fn keeps_row(store: &[u8], rows: u8, r: u8, names: &[u8], with: &[u8], without: &[u8]) -> bool
     requires sized { Sized rows store.now }
     requires names { Names (store_program rows store.now) names.now }
@@ -35,6 +38,7 @@ fn keeps_row(store: &[u8], rows: u8, r: u8, names: &[u8], with: &[u8], without: 
 
 // The smallest row whose flow rule fails, or NO_ROW. What a sync asks of a send row depends on the sync only by unit in its set, so the
 // send rows that pass are found once for each of the two cases.
+#[tactic(auto, using(crate::proofs::Failing::first_fails, crate::proofs::Failing::none_fails))]
 pub fn failing_row(store: &[u8], rows: u8) -> u8
     requires store_size_in_bounds { store_size ≤ length store.now }
     requires rows_le_row_limit { rows ≤ row_limit }

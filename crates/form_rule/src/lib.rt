@@ -1,4 +1,6 @@
 // The flow rule of a form over the sets of a store.
+#![tactic(auto)]
+
 ghost use Rattle.std.specs.Prelude.{true, false, ◌&&◌, ◌≡◌};
 ghost use Rattle.program.specs.Flow.{row, keeps_form};
 ghost use Rattle.store.specs.Rows.{store_program};
@@ -25,6 +27,7 @@ fn keeps_fun(store: &[u8], rows: u8, r: u8, n: u8, own: u8) -> bool
 }
 
 // Whether row r keeps the rule of its form, where its bind has the name n. The last arm is that of the value rows other than fun.
+#[tactic(auto, unfolding(program::specs::Flow::keeps_form, sync_rule::specs::Rules::sync_test, program::specs::Flow::send_rule, program::specs::Flow::recv_rule, channel_asks::specs::Channels::send_test, sync_rule::specs::Rules::recv_test, asks::specs::Asks::asks, asks::specs::Asks::Names))]
 pub fn keeps_form(
     store: &[u8],
     rows: u8,

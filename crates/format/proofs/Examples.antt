@@ -1,15 +1,13 @@
 -- Files that load turns back, by computation: each refusal from 1 to 9, at the places where one comes before another.
 use Prim.Native.Nat.{ℕ}
 use Prim.Native.String.{String}
-use mathlib.Core.Bool.{Bool, true, false, not}
-use mathlib.Core.List.{List, [], ◌∷◌, ◌++◌, map}
+use mathlib.Core.List.{List, [], ◌∷◌, map}
 use mathlib.Core.Path.{◌≡◌, refl}
 use lib.ListN.{replicate}
 use Rattle.program.specs.Maybe
 use Rattle.program.specs.Test
 use Rattle.program.specs.Each
 use Rattle.program.specs.Program
-use Rattle.format.specs.declared.Refusal.{Refusal}
 use Rattle.format.specs.Refusals
 use Rattle.format.specs.Refusals.{Result, refused, accepted}
 use Rattle.format.specs.Document.{Document}

@@ -1,7 +1,7 @@
 -- "The file": bytes, numbers and fixed words, printed, and read from a position of a text.
 use Rattle.std.specs.Prelude.{ℕ, zero, suc, ◌+◌, ◌-◌, ◌*◌, ◌/◌, ◌%◌, true, false, List, [], ◌∷◌, ◌++◌, get_or, ltb, eqb}
 use Prim.Native.Char.{code}
-use Prim.Native.String.{String, [] as empty, ◌∷◌ as ◌then◌}
+use Prim.Native.String.{String}
 use Rattle.std.proofs.Math.Option.{Option, none, some}
 use Rattle.program.specs.Maybe.{◌>>=◌}
 use Rattle.program.specs.Test.{pick}

@@ -1,3 +1,5 @@
+#![tactic(auto)]
+
 // Why a call is turned back. Documents 01 and 02 number these; `number` of specs/Refusals gives the numbers.
 #[derive(Drop)]
 pub enum Reason {

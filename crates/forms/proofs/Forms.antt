@@ -205,3 +205,59 @@ module _ (ks : List ℕ) (f : Form) where
       every_form (λ f. OneOf ks (tag_of form.the_type f) → is_chan f ≡ false)
       (λ o. refl) (λ o. absurd (miss ks 1 h o)) (λ c m o. refl) (λ c o. refl) (λ a b o. refl) (λ a o. refl) (λ a o. refl) (λ f x t o. refl) (λ t o. refl)
       (λ e o. refl) (λ a o. refl) (λ a o. refl) (λ s l t r w o. refl) (λ f a o. refl) f
+
+-- a form that is no value of some variant, as an arm of a `match` after that variant's knows
+module _ (f : Form) where
+  pub lacks_send : ((c m : ℕ) → f ≡ Send c m → ⊥) → send_of f ≡ none
+  lacks_send =
+      every_form (λ f. ((c m : ℕ) → f ≡ Send c m → ⊥) → send_of f ≡ none)
+      (λ o. refl) (λ o. refl) (λ c m o. absurd (o c m refl)) (λ c o. refl) (λ a b o. refl) (λ a o. refl) (λ a o. refl) (λ f x t o. refl) (λ t o. refl)
+      (λ e o. refl) (λ a o. refl) (λ a o. refl) (λ s l t r w o. refl) (λ f a o. refl) f
+
+  pub lacks_recv : ((c : ℕ) → f ≡ Recv c → ⊥) → recv_of f ≡ none
+  lacks_recv =
+      every_form (λ f. ((c : ℕ) → f ≡ Recv c → ⊥) → recv_of f ≡ none)
+      (λ o. refl) (λ o. refl) (λ c m o. refl) (λ c o. absurd (o c refl)) (λ a b o. refl) (λ a o. refl) (λ a o. refl) (λ f x t o. refl) (λ t o. refl)
+      (λ e o. refl) (λ a o. refl) (λ a o. refl) (λ s l t r w o. refl) (λ f a o. refl) f
+
+  pub lacks_pair : ((a b : ℕ) → f ≡ Pair a b → ⊥) → pair_of f ≡ none
+  lacks_pair =
+      every_form (λ f. ((a b : ℕ) → f ≡ Pair a b → ⊥) → pair_of f ≡ none)
+      (λ o. refl) (λ o. refl) (λ c m o. refl) (λ c o. refl) (λ a b o. absurd (o a b refl)) (λ a o. refl) (λ a o. refl) (λ f x t o. refl) (λ t o. refl)
+      (λ e o. refl) (λ a o. refl) (λ a o. refl) (λ s l t r w o. refl) (λ f a o. refl) f
+
+  pub lacks_left : ((a : ℕ) → f ≡ Left a → ⊥) → left_of f ≡ none
+  lacks_left =
+      every_form (λ f. ((a : ℕ) → f ≡ Left a → ⊥) → left_of f ≡ none)
+      (λ o. refl) (λ o. refl) (λ c m o. refl) (λ c o. refl) (λ a b o. refl) (λ a o. absurd (o a refl)) (λ a o. refl) (λ f x t o. refl) (λ t o. refl)
+      (λ e o. refl) (λ a o. refl) (λ a o. refl) (λ s l t r w o. refl) (λ f a o. refl) f
+
+  pub lacks_right : ((a : ℕ) → f ≡ Right a → ⊥) → right_of f ≡ none
+  lacks_right =
+      every_form (λ f. ((a : ℕ) → f ≡ Right a → ⊥) → right_of f ≡ none)
+      (λ o. refl) (λ o. refl) (λ c m o. refl) (λ c o. refl) (λ a b o. refl) (λ a o. refl) (λ a o. absurd (o a refl)) (λ f x t o. refl) (λ t o. refl)
+      (λ e o. refl) (λ a o. refl) (λ a o. refl) (λ s l t r w o. refl) (λ f a o. refl) f
+
+  pub lacks_fun : ((g x t : ℕ) → f ≡ Fun g x t → ⊥) → fun_of f ≡ none
+  lacks_fun =
+      every_form (λ f. ((g x t : ℕ) → f ≡ Fun g x t → ⊥) → fun_of f ≡ none)
+      (λ o. refl) (λ o. refl) (λ c m o. refl) (λ c o. refl) (λ a b o. refl) (λ a o. refl) (λ a o. refl) (λ f x t o. absurd (o f x t refl)) (λ t o. refl)
+      (λ e o. refl) (λ a o. refl) (λ a o. refl) (λ s l t r w o. refl) (λ f a o. refl) f
+
+  pub lacks_spawn : ((t : ℕ) → f ≡ Spawn t → ⊥) → spawn_of f ≡ none
+  lacks_spawn =
+      every_form (λ f. ((t : ℕ) → f ≡ Spawn t → ⊥) → spawn_of f ≡ none)
+      (λ o. refl) (λ o. refl) (λ c m o. refl) (λ c o. refl) (λ a b o. refl) (λ a o. refl) (λ a o. refl) (λ f x t o. refl) (λ t o. absurd (o t refl))
+      (λ e o. refl) (λ a o. refl) (λ a o. refl) (λ s l t r w o. refl) (λ f a o. refl) f
+
+  pub lacks_sync : ((e : ℕ) → f ≡ Sync e → ⊥) → sync_of f ≡ none
+  lacks_sync =
+      every_form (λ f. ((e : ℕ) → f ≡ Sync e → ⊥) → sync_of f ≡ none)
+      (λ o. refl) (λ o. refl) (λ c m o. refl) (λ c o. refl) (λ a b o. refl) (λ a o. refl) (λ a o. refl) (λ f x t o. refl) (λ t o. refl)
+      (λ e o. absurd (o e refl)) (λ a o. refl) (λ a o. refl) (λ s l t r w o. refl) (λ f a o. refl) f
+
+  pub lacks_chan : (f ≡ Chan → ⊥) → is_chan f ≡ false
+  lacks_chan =
+      every_form (λ f. (f ≡ Chan → ⊥) → is_chan f ≡ false)
+      (λ o. refl) (λ o. absurd (o refl)) (λ c m o. refl) (λ c o. refl) (λ a b o. refl) (λ a o. refl) (λ a o. refl) (λ f x t o. refl) (λ t o. refl)
+      (λ e o. refl) (λ a o. refl) (λ a o. refl) (λ s l t r w o. refl) (λ f a o. refl) f

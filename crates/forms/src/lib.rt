@@ -1,4 +1,6 @@
 // The rows of the program in a store, and the forms that they hold.
+#![tactic(auto)]
+
 ghost use Rattle.std.specs.Prelude.{◌≡◌};
 ghost use Rattle.program.specs.Program.{row_at, chan_row};
 ghost use Rattle.store.specs.Rows.{store_program};
@@ -8,6 +10,7 @@ use program::{Form, Row};
 use stored_rows::row_at;
 
 // Row r of the program, and past the last one a result.
+#[inline(always)]
 pub fn row_in(store: &[u8], rows: u8, r: u8) -> Row
     ensures { result ≡ row_at (store_program rows store.now) r }
 {
@@ -18,6 +21,8 @@ pub fn row_in(store: &[u8], rows: u8, r: u8) -> Row
 }
 
 // The form of a row; of a result, unit, which holds no name and no row.
+#[tactic(auto, unfolding(crate::specs::Forms::form_in))]
+#[inline(always)]
 pub fn form_at(store: &[u8], rows: u8, r: u8) -> Form
     ensures { result ≡ form_in (row_at (store_program rows store.now) r) }
 {

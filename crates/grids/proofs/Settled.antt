@@ -2,12 +2,11 @@
 use Prim.Native.Nat.{ℕ, ◌≤◌, ◌<◌}
 use native.Mathlib.Omega.{arith}
 use native.Mathlib.Decide.{dec_lt}
-use mathlib.Core.Bool.{Bool, true, false, So, false≢true}
-use mathlib.Core.Logic.{◌⊎◌, inl, inr, ⊎_elim}
-use mathlib.Core.Path.{◌≡◌, refl, sym, ◌∙◌}
+use mathlib.Core.Bool.{Bool, false, So, false≢true}
+use mathlib.Core.Logic.{⊎_elim}
+use mathlib.Core.Path.{◌≡◌, sym, ◌∙◌}
 use lib.Dec.{ltb}
-use borrow.Author.Tests.{ltb-true, lt-ltb, not-true}
-use Rattle.program.specs.Test.{pick}
+use borrow.Author.Tests.{lt-ltb, not-true}
 use Rattle.program.specs.Closure.{closed}
 use Rattle.program.proofs.Test.{not_intro, same_tests}
 use Rattle.program.proofs.Decides.Closure.{closed_past, closure_beside}

@@ -1,8 +1,7 @@
 -- The closure of a relation between the first n rows: it has the relation, goes on through it, and has nothing else.
-use Prim.Native.Nat.{ℕ, ◌≤◌, ◌<◌}
+use Prim.Native.Nat.{ℕ, ◌<◌}
 use native.Mathlib.Omega.{arith}
 use mathlib.Core.Bool.{Bool, So}
-use mathlib.Core.Path.{◌≡◌}
 use Rattle.program.specs.Closure.{closure, grid, closed}
 use Rattle.program.proofs.Decides.Closure.{via_first, via_trans, via_only, grid-cell}
 

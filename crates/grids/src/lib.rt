@@ -1,4 +1,6 @@
 // A grid of bytes, one for each pair of rows, that shows a relation between rows: steps taken in it, and closed.
+#![tactic(auto)]
+
 use store::Store;
 
 pub mod rounds; // rounds.rt: single steps, and Warshall's rounds

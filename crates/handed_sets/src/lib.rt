@@ -1,4 +1,6 @@
 // A set that is handed over as a yes or no for unit and a list of rows: marked in bytes as a store has its sets, and put in the place of one.
+#![tactic(auto)]
+
 ghost use Rattle.std.specs.Prelude.{◌≡◌, ◌+◌, ◌≤◌, length, take, drop, replicate};
 ghost use Rattle.std.proofs.lemmas.List.Edits.{sets};
 ghost use Rattle.calls.specs.Layout.{member_limit};
@@ -7,6 +9,7 @@ ghost use Rattle.handed_sets.specs.Handed.{Marked};
 use read_text::byte_at;
 
 // Marks unit and the rows of a list, where the list rises and has no row but of allowed members; else tells that it is no set.
+#[tactic(auto, using(crate::proofs::Marking::is_not_allowed, crate::proofs::Marking::a_set))]
 pub fn mark_members(unit: bool, list: &[u8], allowed: &[u8], set: &mut [u8]) -> bool
     requires { (set.old ≡ replicate member_limit 0) × (length allowed.now ≤ member_limit) }
     ensures { Marked unit list.now allowed.now result set.new }

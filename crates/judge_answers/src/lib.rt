@@ -1,4 +1,6 @@
 // The refusals of judge and verdict: 10 with its line, 24, and a verdict that is not given.
+#![tactic(auto)]
+
 ghost use Rattle.std.specs.Prelude.{◌≡◌};
 ghost use Rattle.format.specs.Refusals.{refusal};
 ghost use Rattle.format.specs.Structure.{row_line};

@@ -1,4 +1,6 @@
 // Judge and verdict of a store that opens: the flow rules, then the words of a channel, or the claims in turn.
+#![tactic(auto)]
+
 ghost use Rattle.std.specs.Prelude.{false, ◌≡◌, ◌≤◌, length};
 ghost use Rattle.format.specs.Limits.{row_limit, line_limit};
 ghost use Rattle.format.specs.Structure.{claim_line};
@@ -34,6 +36,7 @@ fn claim_line(store: &[u8], rows: u8) -> usize
 }
 
 // What judge answers of the claims: their count, or 11 at the line of the first that fails. Only then the lines before it are counted.
+#[tactic(auto, unfolding(claims::specs::Claims::judged_at, claims::specs::Claims::holding))]
 fn claims_answer(store: &[u8], rows: u8, held: Held) -> JudgeAnswer
     requires store_len { length store.now ≡ store_size }
     requires rows_value { rows ≡ count_rows row_limit store.now }
@@ -73,6 +76,7 @@ fn claims_held(store: &[u8], rows: u8) -> Held
 }
 
 // Judges the store.
+#[tactic(auto, using(crate::proofs::Documents::few_rows))]
 pub fn judge_rows(store: &[u8], rows: u8) -> JudgeAnswer
     requires store_len { length store.now ≡ store_size }
     requires rows_value { rows ≡ count_rows row_limit store.now }
@@ -87,6 +91,7 @@ pub fn judge_rows(store: &[u8], rows: u8) -> JudgeAnswer
 }
 
 // Judges the store, with a lent grid of zeros. Where it is accepted, the grid tells which rows reach which.
+#[tactic(auto, using(crate::proofs::Documents::few_rows))]
 pub fn judge_store(store: &[u8], rows: u8, grid: &mut [u8]) -> JudgeAnswer
     requires store_len { length store.now ≡ store_size }
     requires rows_value { rows ≡ count_rows row_limit store.now }
@@ -104,6 +109,7 @@ pub fn judge_store(store: &[u8], rows: u8, grid: &mut [u8]) -> JudgeAnswer
 }
 
 // The verdict of a channel: 24 where the number is no chan row, then 10, then the five words.
+#[tactic(auto, using(crate::proofs::Documents::few_rows, crate::proofs::Documents::no_channel))]
 pub fn verdict_rows(store: &[u8], rows: u8, channel: usize) -> VerdictAnswer
     requires store_len { length store.now ≡ store_size }
     requires rows_value { rows ≡ count_rows row_limit store.now }

@@ -1,4 +1,6 @@
 // A row written into a store: eight bytes to a row, which are kind, name, rest and five arguments.
+#![tactic(auto)]
+
 ghost use Rattle.std.specs.Prelude.{◌≡◌, ◌+◌, ◌*◌, ◌≤◌, length};
 ghost use Rattle.std.proofs.lemmas.List.Edits.{sets};
 ghost use Rattle.calls.specs.Layout.{row_size, row_bytes};
@@ -8,6 +10,7 @@ use program::{Form, Row};
 use store::{Cells, Store};
 
 // The bytes of a bind with form f.
+#[tactic(auto, unfolding(calls::specs::Layout::row_bytes, calls::specs::Layout::padded, format::specs::Forms::form_code, format::specs::Print::form_numbers))]
 fn cells_of_form(f: Form, name: u8, rest: u8) -> Cells
     ensures { bytes_of result ≡ row_bytes (Row.Bind (record { name = name; form = f; rest = rest })) }
 {
@@ -74,6 +77,7 @@ fn two(kind: u8, name: u8, rest: u8, a: u8, b: u8) -> Cells
 }
 
 // The bytes of a row.
+#[tactic(auto, unfolding(calls::specs::Layout::row_bytes, calls::specs::Layout::padded))]
 fn cells_of(row: Row) -> Cells
     ensures { bytes_of result ≡ row_bytes row }
 {

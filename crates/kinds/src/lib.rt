@@ -1,9 +1,12 @@
 // The kinds of the forms, 2 to 15, as places of a table.
+#![tactic(auto)]
+
 ghost use Rattle.std.specs.Prelude.{◌≡◌};
 ghost use Rattle.format.specs.Forms.{arity};
 ghost use Rattle.kinds.specs.Kinds.{form_place};
 
 // The place of a kind's form: any number that is no form's kind counts as the last, apply.
+#[tactic(auto, unfolding(crate::specs::Kinds::form_place))]
 pub fn form_place(kind: u8) -> usize
     ensures { result ≡ form_place kind }
 {

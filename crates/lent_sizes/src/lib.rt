@@ -1,4 +1,6 @@
 // How many bytes a caller lends at least.
+#![tactic(auto)]
+
 ghost use Rattle.std.specs.Prelude.{◌≡◌};
 ghost use Rattle.calls.specs.Layout.{store_size};
 ghost use Rattle.report.specs.Report.{report_limit};

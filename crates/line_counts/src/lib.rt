@@ -1,4 +1,6 @@
 // The counts of a store's lines, where its rows have been counted.
+#![tactic(auto)]
+
 ghost use Rattle.std.specs.Prelude.{◌≡◌, length};
 ghost use Rattle.calls.specs.Layout.{store_size, decode_claims};
 ghost use Rattle.line_counts.specs.Counting.{store_counts};

@@ -34,7 +34,6 @@ use Rattle.progress.specs.Progress.{Matches}
 use Rattle.load_line.specs.Line.{Stored, Past}
 use Rattle.load_lines.specs.declared.FileRead.{FileRead}
 use Rattle.load_lines.specs.File.{FileAnswer, FileIs}
-use Rattle.structure.specs.declared.Structure.TheVariants.{Refused}
 use Rattle.load_file.specs.Finish.{Finishes}
 
 -- ---- the document of a store that holds one

@@ -1,4 +1,6 @@
 // A file loaded into a store that is long enough: refusals 1 to 9, or its counts.
+#![tactic(auto)]
+
 ghost use Rattle.std.specs.Prelude.{◌≤◌, length};
 ghost use Rattle.format.specs.Limits.{row_limit};
 ghost use Rattle.format.specs.Refusals.{refused};

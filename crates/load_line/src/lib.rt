@@ -1,4 +1,6 @@
 // One line of a file read into a store, with refusals 2 to 5.
+#![tactic(auto)]
+
 ghost use Rattle.std.specs.Prelude.{◌≡◌, ◌+◌, ◌≤◌, ◌<◌, length};
 ghost use Rattle.std.proofs.lemmas.List.Edits.{sets};
 ghost use Rattle.format.specs.declared.Section.TheVariants.{Rows, Claims};
@@ -40,6 +42,7 @@ fn put_flags(store: &mut [u8], base: usize, flags: &[u8])
 }
 
 // The code of a claim's word in the store.
+#[tactic(auto, unfolding(calls::specs::Layout::word_code))]
 fn word_code(word: Word) -> u8
     ensures { result ≡ word_code word }
 {

@@ -1,4 +1,6 @@
 // The lines of a file read into a store, with refusals 2 to 5.
+#![tactic(auto)]
+
 ghost use Rattle.std.specs.Prelude.{◌≡◌, ◌≤◌, length};
 ghost use Rattle.format.specs.Limits.{byte_limit};
 ghost use Rattle.format.specs.Read.{read_lines, no_lines, read_file};
@@ -79,6 +81,7 @@ fn load_rest(file: &[u8], start: usize, store: &mut [u8]) -> FileRead
 }
 
 // Reads a file into a store whose bytes are 0.
+#[tactic(auto, unfolding(format::specs::Print::header, format::specs::Text::ascii))]
 pub fn load_lines(file: &[u8], store: &mut [u8]) -> FileRead
     requires store_size_in_bounds { store_size ≤ length store.old }
     requires stored { Stored store.old no_lines }

@@ -1,4 +1,6 @@
 // The value of a name, looked for from a cell on to older ones. A look-up ends because each cell that it goes to is older than the last, so it reads at most Run::CELLS of them.
+#![tactic(auto)]
+
 ghost use Rattle.std.specs.Prelude.{◌≡◌};
 ghost use Rattle.machine.specs.Machine.{held_by, numbered, find, find_closure, find_channel};
 ghost use Rattle.run_memory.specs.RunMemory.{InLimits, memory_in};
@@ -36,6 +38,7 @@ pub enum FrameFound {
 }
 
 // The value that the cell of this number keeps.
+#[tactic(auto, unfolding(machine::specs::Machine::held_by))]
 fn held_by(k: u16, kept: Kept) -> Held
     ensures { result ≡ held_by k kept }
 {

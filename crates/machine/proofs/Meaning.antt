@@ -10,7 +10,7 @@ use lib.Dec.{eqb}
 use borrow.Author.Tests.{ne_eqb}
 use Rattle.program.specs.Test.{pick}
 use Rattle.program.specs.Maybe.{◌>>=◌}
-use Rattle.program.specs.Run.{Instance, Value, channel, closure, Env, extend, lookup, channel_of, closure_of, closure_at, Return}
+use Rattle.program.specs.Run.{Instance, Value, closure, Env, extend, lookup, channel_of, closure_of, closure_at, Return}
 use Rattle.program.proofs.Test.{eqb_same}
 use Rattle.machine.specs.declared.ThreadRecord.{ThreadRecord}
 use Rattle.machine.specs.declared.Frame.{Frame}

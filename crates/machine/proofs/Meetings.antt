@@ -13,7 +13,7 @@ use Rattle.program.specs.declared.Form.{Form}
 use Rattle.program.specs.declared.Form.TheVariants.{Chan, Send, Recv, Pair, Left, Right, Fun, Spawn, Sync, First, Second, Case, Apply}
 use Rattle.program.specs.Maybe.{◌>>=◌, given, provided}
 use Rattle.program.specs.Program.{Program, bind_at, form_at, sync_at, send_of, recv_of, send_at, recv_at}
-use Rattle.program.specs.Run.{next, Path, Instance, same_instance, Value, unit, Env, State, Move, Pool, meet, leaf, leaf_state, lengthen, proceed, event, sends_on, message, offer, receives_on, added}
+use Rattle.program.specs.Run.{next, Path, Instance, same_instance, Value, unit, Env, State, Move, Pool, meet, leaf_state, lengthen, proceed, event, sends_on, message, offer, receives_on, added}
 use Rattle.program.specs.Snoc.{◌▷◌, Continues}
 use Rattle.program.proofs.Maybe.{Found, nothing, found, found_at, bind_elim}
 use Rattle.program.proofs.Snoc.{begins_refl}
@@ -22,7 +22,7 @@ use Rattle.machine.specs.declared.Held.{Held}
 use Rattle.machine.specs.declared.Kept.{Kept}
 use Rattle.machine.specs.declared.Kept.TheVariants.{Keeps}
 use Rattle.machine.specs.Machine.{Memory, Machine, thread_at, Change, changed, go_on, event_of, sends, sends_what, offers, awaits, together}
-use Rattle.machine.specs.Meaning.{Marked, cells, own_at, state_in, Marks, memory_of}
+use Rattle.machine.specs.Meaning.{Marked, own_at, state_in, Marks, memory_of}
 use Rattle.machine.proofs.Flat.{flat}
 use Rattle.machine.proofs.Like.{Like, neither, both, like_bind, like_same, like_found}
 use Rattle.machine.proofs.Meaning.{Means, find_like, SameClosure, closure_like, channel_like}

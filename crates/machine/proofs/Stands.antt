@@ -2,11 +2,11 @@
 use Prim.Native.Nat.{ℕ, zero, suc}
 use native.Mathlib.Omega.{arith}
 use native.Mathlib.Decide.{ℕ_discrete}
-use mathlib.Core.Bool.{true, false, So, false≢true}
+use mathlib.Core.Bool.{false, So, false≢true}
 use mathlib.Core.List.{List, [], ◌∷◌, ◌++◌, map}
 use mathlib.Core.Option.{Option, none, some}
 use mathlib.Core.Path.{◌≡◌, refl, sym, ◌∙◌, ap, subst}
-use mathlib.Core.Logic.{◌⊎◌, inl, inr, ⊎_elim, ◌≢◌}
+use mathlib.Core.Logic.{inl, inr, ⊎_elim, ◌≢◌}
 use lib.ListN.{length, set}
 use Rattle.program.specs.Maybe.{◌>>=◌}
 use Rattle.program.specs.declared.Bind.{Bind}
@@ -19,7 +19,7 @@ use Rattle.machine.specs.declared.ThreadRecord.{ThreadRecord}
 use Rattle.machine.specs.declared.Held.{Held}
 use Rattle.machine.specs.declared.Kept.TheVariants.{Keeps}
 use Rattle.machine.specs.Machine.{Memory, Machine, thread_at, Change, grown, change, changed, go_on, alone}
-use Rattle.machine.specs.Meaning.{cells, own_at, state_in, Marks, memory_of, states}
+use Rattle.machine.specs.Meaning.{own_at, state_in, Marks, memory_of, states}
 use Rattle.machine.specs.Standing.{Lined}
 use Rattle.machine.proofs.Flat.{flat}
 use Rattle.machine.proofs.Like.{Like, both, like_bind}

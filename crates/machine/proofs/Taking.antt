@@ -1,5 +1,5 @@
 -- What each move takes of cells, frames and threads: 31 can be told before anything is altered; and so what each move answers.
-use Prim.Native.Nat.{ℕ, zero, suc, ◌+◌}
+use Prim.Native.Nat.{ℕ, ◌+◌}
 use native.Mathlib.Omega.{arith}
 use mathlib.Core.Bool.{Bool, true, false, So}
 use mathlib.Core.List.{List, [], ◌∷◌, ◌++◌}

@@ -12,7 +12,7 @@ use Rattle.program.specs.declared.Row.{Row}
 use Rattle.program.specs.declared.Bind.{Bind}
 use Rattle.program.specs.declared.Form.{Form}
 use Rattle.program.specs.declared.Form.TheVariants.{Chan, Send, Recv, Pair, Left, Right, Fun, Spawn, Sync, First, Second, Case, Apply}
-use Rattle.program.specs.Each.{there, elem, collect, Each, nil, ◌&◌}
+use Rattle.program.specs.Each.{elem, collect, Each, nil, ◌&◌}
 use Rattle.program.specs.Maybe.{◌>>=◌, given}
 use Rattle.program.specs.Program.{Program, row_at, bind_of, bind_at, form_at, send_at, pair_at, left_at, right_at, fun_of, fun_at, rows_of, binders_of, pointers, binders}
 use Rattle.program.specs.Test.{pick}

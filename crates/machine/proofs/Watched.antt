@@ -7,7 +7,7 @@ use mathlib.Core.Option.{Option, none, some}
 use mathlib.Core.Path.{◌≡◌, refl, sym, ◌∙◌, ap, subst}
 use Rattle.program.specs.Maybe.{◌>>=◌, given}
 use Rattle.program.specs.Program.{Program}
-use Rattle.program.specs.Run.{Path, empty, State, Thread, Pool, Step, state_of, leaf, leaf_state, added, step, after, start_pool, run}
+use Rattle.program.specs.Run.{Path, empty, State, Thread, Pool, Step, state_of, leaf, leaf_state, added, step, after, start_pool}
 use Rattle.program.specs.Snoc.{ε, continues?}
 use Rattle.program.specs.Each.{every}
 use Rattle.program.specs.Test.{test}

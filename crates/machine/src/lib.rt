@@ -1,9 +1,10 @@
 // What a watched run has in use: thread records, cells and frames. `specs/Machine` says what a move makes of them.
 // Cells and frames are numbered from 1, the oldest first, and 0 names none; threads are numbered by birth from 0.
+#![tactic(auto)]
 
 // A thread: its row, the newest cell of its environment, and the frame of the last return that waits.
 #[repr(C)]
-#[derive(Drop)]
+#[derive(Clone, Copy)]
 pub struct ThreadRecord {
     pub row: u8,
     pub cell: u16,

@@ -1,4 +1,6 @@
 // Marks: which sets changed of late. They tell what may be passed over, and nothing is proved of them.
+#![tactic(auto)]
+
 ghost use Rattle.std.specs.Prelude.{◌<◌};
 
 use read_text::byte_at;

@@ -1,4 +1,6 @@
 // What is in a set of bytes.
+#![tactic(auto)]
+
 ghost use Rattle.std.specs.Prelude.{◌≡◌};
 ghost use Rattle.program.specs.Flow.{u, row};
 ghost use Rattle.sets.specs.Sets.{set_of};
@@ -6,6 +8,7 @@ ghost use Rattle.sets.specs.Sets.{set_of};
 use store::Store;
 
 // Whether row r is in a set.
+#[tactic(auto, unfolding(sets::specs::Sets::set_of, format::specs::Document::member))]
 pub fn has_row(set: &[u8], r: u8) -> bool
     ensures { result ≡ set_of set.now (row r) }
 {
@@ -17,6 +20,7 @@ pub fn has_row(set: &[u8], r: u8) -> bool
 }
 
 // Whether unit is in a set.
+#[tactic(auto, unfolding(sets::specs::Sets::set_of, format::specs::Document::member))]
 pub fn has_unit(set: &[u8]) -> bool
     ensures { result ≡ set_of set.now u }
 {

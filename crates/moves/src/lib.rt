@@ -1,4 +1,6 @@
 // A move that the run rules allow: 31 where it would exceed a limit, else what it takes is written into run memory and thread records.
+#![tactic(auto)]
+
 ghost use Rattle.std.specs.Prelude.{◌≤◌, ◌<◌, [], ◌∷◌, ◌≡◌};
 ghost use Rattle.std.proofs.Math.Option.{some};
 ghost use Rattle.format.specs.Refusals.{refusal};
@@ -25,6 +27,7 @@ pub struct Moved {
 }
 
 // Whether this much more may be in use.
+#[tactic(auto, using(crate::proofs::Making::no_cells, crate::proofs::Making::no_frames, crate::proofs::Making::no_more))]
 fn has_room(run: &[u8], cells: u16, frames: u16, threads: u8) -> bool
     requires in_limits { InLimits run.now }
     requires run_bound { (in_use run.now).threads ≤ thread_limit }
@@ -69,6 +72,7 @@ fn accept(run: &[u8], records: Records) -> Moved
 }
 
 // A cell is taken.
+#[tactic(auto, using(run_calls::proofs::Left::takes_one, crate::proofs::Making::room_told, crate::proofs::Making::made_refused, crate::proofs::Making::bind_made, crate::proofs::Making::accepted_leaves, crate::proofs::Making::refused_leaves))]
 fn make_bind(run: &mut [u8], records: Records, n: usize, cell: Cell, t: ThreadRecord) -> Moved
     requires lends { Lends run.old records.list }
     requires in_limits { InLimits run.old }
@@ -84,6 +88,7 @@ fn make_bind(run: &mut [u8], records: Records, n: usize, cell: Cell, t: ThreadRe
 }
 
 // A cell is taken, and a thread is started.
+#[tactic(auto, using(run_calls::proofs::Left::takes_one, crate::proofs::Making::room_told, crate::proofs::Making::one_pushed, crate::proofs::Making::thread_ready, crate::proofs::Making::made_refused, crate::proofs::Making::spawn_made, crate::proofs::Making::accepted_leaves, crate::proofs::Making::refused_leaves))]
 fn make_spawn(
     run: &mut [u8],
     records: Records,
@@ -109,6 +114,7 @@ fn make_spawn(
 }
 
 // A cell and a frame are taken.
+#[tactic(auto, using(run_calls::proofs::Left::takes_one, crate::proofs::Making::room_told, crate::proofs::Making::one_pushed, crate::proofs::Making::frame_ready, crate::proofs::Making::made_refused, crate::proofs::Making::enter_made, crate::proofs::Making::accepted_leaves, crate::proofs::Making::refused_leaves))]
 fn make_enter(
     run: &mut [u8],
     records: Records,
@@ -132,6 +138,7 @@ fn make_enter(
 }
 
 // Two cells and a frame are taken.
+#[tactic(auto, using(run_calls::proofs::Left::takes_one, crate::proofs::Making::room_told, crate::proofs::Making::one_pushed, crate::proofs::Making::two_pushed, crate::proofs::Making::cell_ready, crate::proofs::Making::frame_ready, crate::proofs::Making::made_refused, crate::proofs::Making::apply_made, crate::proofs::Making::accepted_leaves, crate::proofs::Making::refused_leaves))]
 fn make_apply(
     run: &mut [u8],
     records: Records,
@@ -157,6 +164,7 @@ fn make_apply(
 }
 
 // Two cells are taken, one for each end.
+#[tactic(auto, using(run_calls::proofs::Left::takes_two, crate::proofs::Making::room_told, crate::proofs::Making::one_pushed, crate::proofs::Making::cell_ready, crate::proofs::Making::made_refused, crate::proofs::Making::both_made, crate::proofs::Making::accepted_leaves, crate::proofs::Making::refused_leaves))]
 fn make_both(
     run: &mut [u8],
     records: Records,

@@ -1,4 +1,6 @@
 // 20, 21 and 22: what a store must be for judge, verdict and write.
+#![tactic(auto)]
+
 ghost use Rattle.std.specs.Prelude.{◌≡◌, not, ◌≤◌, length, take};
 ghost use Rattle.opening.specs.declared.Opened.{Opened};
 ghost use Rattle.format.specs.Limits.{row_limit};
@@ -31,6 +33,7 @@ pub fn refuse_store(reason: Reason) -> Opened
 }
 
 // 21: whether every byte is 0. Where the first is not, no other is looked at.
+#[tactic(auto, using(crate::proofs::Opening::first_byte, crate::proofs::Opening::all_zeros))]
 fn is_empty(fixed: &[u8]) -> bool
     requires { length fixed.now ≡ store_size }
     ensures { result ≡ is_empty fixed.now }
@@ -42,6 +45,7 @@ fn is_empty(fixed: &[u8]) -> bool
 }
 
 // 22: whether these bytes, which have so many rows, are such as a load leaves, the length limit set aside.
+#[tactic(auto, using(crate::proofs::Opening::rows_fail, crate::proofs::Opening::tree_fails, crate::proofs::Opening::lines_decide))]
 fn is_sound(fixed: &[u8], rows: u8) -> bool
     requires fixed_len { length fixed.now ≡ store_size }
     requires rows_value { (rows ≡ count_rows row_limit fixed.now) × (rows ≤ row_limit) }
@@ -58,6 +62,7 @@ fn is_sound(fixed: &[u8], rows: u8) -> bool
 }
 
 // 21 and 22 of a store's fixed size.
+#[tactic(auto, using(crate::proofs::Opening::empty_refused, crate::proofs::Opening::unsound_refused, crate::proofs::Opening::store_opens, crate::proofs::Rulesets::open_fixed_facts))]
 fn open_fixed(fixed: &[u8]) -> Opened
     requires { length fixed.now ≡ store_size }
     ensures { OpenedIs (opened_fixed fixed.now) fixed.now result }
@@ -73,6 +78,7 @@ fn open_fixed(fixed: &[u8]) -> Opened
 }
 
 // 20, 21 and 22 of a store, at the head of a slice.
+#[tactic(auto, using(crate::proofs::Opening::too_short_refused))]
 pub fn open(store: &[u8]) -> Opened
     ensures { OpenedIs (opened store.now) (take store_size store.now) result }
 {

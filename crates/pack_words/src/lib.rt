@@ -1,4 +1,6 @@
 // The answer of a verdict as a 64-bit number. `Packing` of crate packing says where each part of an answer stands.
+#![tactic(auto)]
+
 ghost use Rattle.std.specs.Prelude.{◌≡◌, length};
 ghost use Rattle.calls.specs.Answers.{verdict_answer};
 ghost use Rattle.calls.specs.Judging.{verdict_words};
@@ -8,6 +10,7 @@ use calls::{VerdictAnswer, VerdictStatus};
 use packing::pack_refusal;
 
 // The five words, a bit each, above a byte of 0.
+#[tactic(auto, using(crate::proofs::Words::bits_low, crate::proofs::Words::five_bits), unfolding(calls::specs::Answers::verdict_answer, calls::specs::Answers::status_answer, calls::specs::Answers::refusal_answer, packing::specs::Packing::packed))]
 pub fn pack_verdict(answer: VerdictAnswer) -> u64
     requires lossless { Lossless word_bits (verdict_answer answer) }
     requires words_len { length answer.words ≡ length verdict_words }

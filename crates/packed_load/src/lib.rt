@@ -1,4 +1,6 @@
 // The call load, its answer as one number.
+#![tactic(auto)]
+
 ghost use Rattle.std.specs.Prelude.{◌≡◌};
 ghost use Rattle.calls.specs.Calls.{load};
 ghost use Rattle.calls.specs.Answers.{load_answer};

@@ -1,4 +1,6 @@
 // The call replace, its answer as one number and the yes or no for unit as another: 0 is no.
+#![tactic(auto)]
+
 ghost use Rattle.std.specs.Prelude.{◌≡◌, ltb};
 ghost use Rattle.replacement.specs.Replacement.{replace};
 ghost use Rattle.calls.specs.Answers.{load_answer};

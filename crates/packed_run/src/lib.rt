@@ -1,4 +1,6 @@
 // The run calls, their answers as one number.
+#![tactic(auto)]
+
 ghost use Rattle.std.specs.Prelude.{◌≡◌};
 ghost use Rattle.run_memory.specs.RunMemory.{run_size};
 ghost use Rattle.run_calls.specs.RunCalls.{run_answer};
@@ -26,6 +28,7 @@ pub fn run_size() -> u64
 }
 
 // The number of threads in use above a byte of 0.
+#[tactic(auto, unfolding(run_calls::specs::RunCalls::run_answer, calls::specs::Answers::refusal_answer, packing::specs::Packing::packed, packing::specs::Packing::in_bits))]
 fn pack_run(answer: RunAnswer) -> u64
     requires { Lossless number_bits (run_answer answer) }
     ensures { result ≡ packed number_bits (run_answer answer) }

@@ -1,4 +1,6 @@
 // The call write, its answer as one number.
+#![tactic(auto)]
+
 ghost use Rattle.std.specs.Prelude.{◌≡◌};
 ghost use Rattle.calls.specs.Calls.{write};
 ghost use Rattle.calls.specs.Answers.{write_answer};

@@ -1,4 +1,6 @@
 // Answers as 64-bit numbers. `specs/Packing` says where each part of an answer stands.
+#![tactic(auto)]
+
 ghost use Rattle.std.specs.Prelude.{◌≡◌, ◌+◌, ◌*◌, ◌^◌, ◌<◌};
 ghost use Rattle.format.specs.Refusals.{number};
 ghost use Rattle.calls.specs.Answers.{load_answer, judge_answer, write_answer};
@@ -21,6 +23,7 @@ pub fn pack_refusal(refusal: Refusal) -> u64
 }
 
 // The counts, a byte each, above a byte of 0.
+#[tactic(auto, unfolding(calls::specs::Answers::load_answer, calls::specs::Answers::refusal_answer, crate::specs::Packing::packed, crate::specs::Packing::in_bits))]
 pub fn pack_load(answer: LoadAnswer) -> u64
     requires { Lossless count_bits (load_answer answer) }
     ensures { result ≡ packed count_bits (load_answer answer) }
@@ -38,6 +41,7 @@ pub fn pack_load(answer: LoadAnswer) -> u64
 }
 
 // The count of claims above a byte of 0.
+#[tactic(auto, unfolding(calls::specs::Answers::judge_answer, calls::specs::Answers::refusal_answer, crate::specs::Packing::packed, crate::specs::Packing::in_bits))]
 pub fn pack_judge(answer: JudgeAnswer) -> u64
     requires { Lossless number_bits (judge_answer answer) }
     ensures { result ≡ packed number_bits (judge_answer answer) }
@@ -49,6 +53,7 @@ pub fn pack_judge(answer: JudgeAnswer) -> u64
 }
 
 // The bytes written above a byte of 0.
+#[tactic(auto, unfolding(calls::specs::Answers::write_answer, calls::specs::Answers::refusal_answer, crate::specs::Packing::packed, crate::specs::Packing::in_bits))]
 pub fn pack_write(answer: WriteAnswer) -> u64
     requires { Lossless number_bits (write_answer answer) }
     ensures { result ≡ packed number_bits (write_answer answer) }

@@ -1,4 +1,6 @@
 // The send and receive places of a channel.
+#![tactic(auto)]
+
 ghost use Rattle.std.specs.Prelude.{◌≡◌, ℕ, ◌≤◌};
 ghost use Rattle.format.specs.Limits.{row_limit};
 ghost use Rattle.calls.specs.Layout.{store_size};
@@ -15,7 +17,7 @@ use store::Store;
 use tables::flow_has;
 
 // The two ends of a channel.
-#[derive(Drop)]
+#[derive(Clone, Copy)]
 pub enum Side {
     Sends,
     Receives,

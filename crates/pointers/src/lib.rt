@@ -1,4 +1,6 @@
 // Refusal 6: the smallest row with a wrong pointer.
+#![tactic(auto)]
+
 ghost use Rattle.std.specs.Prelude.{◌≡◌, true, not, ◌&&◌, List, ℕ, ltb};
 ghost use Rattle.program.specs.Test.{least};
 ghost use Rattle.program.specs.Each.{collect, elem};
@@ -31,6 +33,7 @@ fn is_stray(rows: u8, r: u8, t: u8) -> u8
 }
 
 // 1 if row r may not point at one of these rows.
+#[tactic(auto, unfolding(crate::specs::Strays::strays))]
 fn has_stray(rows: u8, r: u8, few: Few) -> u8
     ensures { result ≡ flag (strays rows r (numbers_of few)) }
 {
@@ -46,6 +49,7 @@ fn has_stray(rows: u8, r: u8, few: Few) -> u8
 }
 
 // The rows that the first rows point at.
+#[tactic(auto, using(seen::proofs::Smallest::marks_row))]
 fn pointed(store: &[u8], rows: u8) -> [u8; NUMBERS]
     ensures { Marks (collect pointers (store_program rows store.now)) result }
 {
@@ -73,6 +77,7 @@ fn is_lost(marks: &[u8; NUMBERS], r: u8) -> u8
 }
 
 // Whether each row points only at later rows that are there, none of them twice, and each but row 0 is pointed at from an earlier row.
+#[tactic(auto, using(seen::proofs::Smallest::marks_row, seen::proofs::Smallest::no_row, crate::proofs::Faults::row_in_order))]
 fn in_order(store: &[u8], rows: u8) -> bool
     ensures { result ≡ true → row_or (least rows (pointer_fault (store_program rows store.now))) ≡ row_limit }
 {
@@ -92,6 +97,7 @@ fn in_order(store: &[u8], rows: u8) -> bool
 }
 
 // The smallest row with a pointer to a row that is absent, not greater or pointed at earlier, or that no row points at; or NO_ROW.
+#[tactic(auto, using(seen::proofs::Smallest::no_row))]
 fn first_wrong(store: &[u8], rows: u8) -> u8
     ensures { result ≡ row_or (least rows (pointer_fault (store_program rows store.now))) }
 {

@@ -1,95 +1,97 @@
-// What a call answers, printed on standard output.
+// What a call answers, printed on standard output. Each function ends at the first write that fails, with its error.
+#![tactic(auto)]
+
 use calls::{JudgeAnswer, LoadAnswer, VerdictAnswer, VerdictStatus, WriteAnswer};
 use format::Refusal;
+use std::io;
 use write_text::put_argument;
 
 // Prints a number behind a space, written as files and reports have it. What is answered has 16 bits, but for the length of a text that is too long for a file.
-fn print_number(n: usize) {
+fn print_number(rt: &impl Print, n: usize) -> io::Result<()> {
     if n > 65535 {
-        io::write_all(1, b" over 65535");
-        return;
+        return rt.write_all(b" over 65535");
     }
     let mut text = [0; 6];
     let end = put_argument(&mut text, 0, n as u16);
-    io::write_all(1, &text[..end]);
+    rt.write_all(&text[..end])
 }
 
 // A refusal, as a report has it.
-pub fn print_refusal(refusal: Refusal) {
+pub fn print_refusal(rt: &impl Print, refusal: Refusal) -> io::Result<()> {
     let line = refusal.line;
     let reason = refusal.reason;
     let number = refusal_numbers::number(reason);
-    io::write_all(1, b"[refused");
-    print_number(number as usize);
-    print_number(line);
-    io::write_all(1, b"]\n");
+    rt.write_all(b"[refused")?;
+    print_number(rt, number as usize)?;
+    print_number(rt, line)?;
+    rt.write_all(b"]\n")
 }
 
-pub fn print_loaded(answer: LoadAnswer) {
+pub fn print_loaded(rt: &impl Print, answer: LoadAnswer) -> io::Result<()> {
     match answer {
         LoadAnswer::Loaded(counts) => {
-            io::write_all(1, b"loaded");
-            print_number(counts.rows);
-            print_number(counts.flows);
-            print_number(counts.comms);
-            print_number(counts.claims);
-            io::write_all(1, b"\n");
+            rt.write_all(b"loaded")?;
+            print_number(rt, counts.rows)?;
+            print_number(rt, counts.flows)?;
+            print_number(rt, counts.comms)?;
+            print_number(rt, counts.claims)?;
+            rt.write_all(b"\n")
         }
-        LoadAnswer::Refused(refusal) => print_refusal(refusal),
+        LoadAnswer::Refused(refusal) => print_refusal(rt, refusal),
     }
 }
 
 // The text itself where it was written, in lines of its own.
-pub fn print_written(answer: WriteAnswer, out: &[u8]) {
+pub fn print_written(rt: &impl Print, answer: WriteAnswer, out: &[u8]) -> io::Result<()> {
     match answer {
         WriteAnswer::Written(n) => {
-            io::write_all(1, b"written");
-            print_number(n);
-            io::write_all(1, b"\n");
-            if n <= out.len() {
-                io::write_all(1, &out[..n]);
-            }
+            rt.write_all(b"written")?;
+            print_number(rt, n)?;
+            rt.write_all(b"\n")?;
+            print_start(rt, n, out)
         }
-        WriteAnswer::Refused(refusal) => print_refusal(refusal),
+        WriteAnswer::Refused(refusal) => print_refusal(rt, refusal),
     }
 }
 
-pub fn print_judged(answer: JudgeAnswer) {
+// The first n bytes, where there are so many.
+fn print_start(rt: &impl Print, n: usize, out: &[u8]) -> io::Result<()> {
+    if n <= out.len() {
+        return rt.write_all(&out[..n]);
+    }
+    Ok(())
+}
+
+pub fn print_judged(rt: &impl Print, answer: JudgeAnswer) -> io::Result<()> {
     match answer {
         JudgeAnswer::Accepted(n) => {
-            io::write_all(1, b"accepted");
-            print_number(n);
-            io::write_all(1, b"\n");
+            rt.write_all(b"accepted")?;
+            print_number(rt, n)?;
+            rt.write_all(b"\n")
         }
-        JudgeAnswer::Refused(refusal) => print_refusal(refusal),
+        JudgeAnswer::Refused(refusal) => print_refusal(rt, refusal),
     }
 }
 
 // Whether a verdict is given; its words are in the report.
-pub fn print_verdict(answer: VerdictAnswer) {
+pub fn print_verdict(rt: &impl Print, answer: VerdictAnswer) -> io::Result<()> {
     let status = answer.status;
     match status {
-        VerdictStatus::Given => {
-            io::write_all(1, b"given\n");
-        }
-        VerdictStatus::Refused(refusal) => print_refusal(refusal),
+        VerdictStatus::Given => rt.write_all(b"given\n"),
+        VerdictStatus::Refused(refusal) => print_refusal(rt, refusal),
     }
 }
 
 // A name, in a line of its own.
-pub fn print_name(name: &[u8]) {
-    io::write_all(1, name);
-    io::write_all(1, b":\n");
+pub fn print_name(rt: &impl Print, name: &[u8]) -> io::Result<()> {
+    rt.write_all(name)?;
+    rt.write_all(b":\n")
 }
 
 // The bytes of a report.
-pub fn print_report(answer: WriteAnswer, out: &[u8]) {
+pub fn print_report(rt: &impl Print, answer: WriteAnswer, out: &[u8]) -> io::Result<()> {
     match answer {
-        WriteAnswer::Written(n) => {
-            if n <= out.len() {
-                io::write_all(1, &out[..n]);
-            }
-        }
-        WriteAnswer::Refused(refusal) => print_refusal(refusal),
+        WriteAnswer::Written(n) => print_start(rt, n, out),
+        WriteAnswer::Refused(refusal) => print_refusal(rt, refusal),
     }
 }

@@ -18,6 +18,7 @@ module _ {A : Type 0} where
   every_elim f (x ∷ xs) t = and_left (f x) (every f xs) t & every_elim f xs (and_right (f x) (every f xs) t)
 
   pub each_at : {P : A → Type 0} {a : A} {xs : List A} → Each P xs → Member a xs → P a
+  each_at nil m = elim m [ ]
   each_at (p & h) (here e) = rw e p
   each_at (p & h) (there m) = each_at h m
 
@@ -49,7 +50,7 @@ module _ {A : Type 0} where
   each_all [] f = nil
   each_all (x ∷ xs) f = f x & each_all xs f
 
-pub each_swap : {A B : Type 0} {R : A → B → Type 0} {xs : List A} (ys : List B) → Each (λ a. Each (R a) ys) xs → Each (λ b. Each (λ a. R a b) xs) ys
+pub each_swap : {A B : Type 0} {R : A → B → Type 0} (ys : List B) {xs : List A} → Each (λ a. Each (R a) ys) xs → Each (λ b. Each (λ a. R a b) xs) ys
 each_swap ys nil = each_all ys λ b. nil
 each_swap ys (p & h) = each_imp (λ b k. k.0 & k.1) (each_both p (each_swap ys h))
 

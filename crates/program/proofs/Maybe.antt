@@ -1,7 +1,7 @@
 -- Facts about what is found.
 use Prim.Native.Nat.{ℕ}
 use native.Mathlib.Omega.{arith}
-use mathlib.Core.Bool.{Bool, true, false, So, false≢true}
+use mathlib.Core.Bool.{Bool, So, false≢true}
 use mathlib.Core.Path.{◌≡◌, refl}
 use mathlib.Core.Option.{Option, none, some}
 use Rattle.program.specs.Maybe.{◌>>=◌, ◌<|>◌, when, has}

@@ -1,8 +1,9 @@
 // The program of a dispenser file, as document 01's section "The file" describes it.
+#![tactic(auto)]
 
 // A form is one of these fourteen, with exactly its own names and rows. Numbers are names, except
 // `body`, `child`, `left` and `right`, which are rows.
-#[derive(Drop)]
+#[derive(Clone, Copy)]
 pub enum Form {
     Unit,
     Chan,
@@ -81,14 +82,14 @@ pub enum Word {
 
 // What is found of the walks that come to some places: one that comes to two of them, one after the other, and two that
 // part at a spawn row and come to places.
-#[derive(Drop)]
+#[derive(Clone, Copy)]
 pub struct Ends {
     pub twice: bool,
     pub rivals: bool,
 }
 
 // What is found at the two ends of a channel: at its send places and at its receive places. Every word is told from this.
-#[derive(Drop)]
+#[derive(Clone, Copy)]
 pub struct Facts {
     pub sends: Ends,
     pub receives: Ends,

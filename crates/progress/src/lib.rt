@@ -1,4 +1,6 @@
 // What has been read of a file, and what it says of the next line: its fault, 2 to 5, and the progress with it.
+#![tactic(auto)]
+
 ghost use Rattle.std.specs.Prelude.{◌≡◌};
 ghost use Rattle.progress.specs.Progress.{Small};
 ghost use Rattle.progress.specs.Lines.{behind, least_of, with_row, with_flow, with_comm, with_set, with_claim, fault_read, row_line_fault, set_line_fault, claim_line_fault};
@@ -8,7 +10,7 @@ use read_sets::SetFault;
 use store::Store;
 
 // What has been read: the counts of lines, and the least number that rises in each section.
-#[derive(Drop)]
+#[derive(Clone, Copy)]
 pub struct Progress {
     pub rows: usize,
     pub flows: usize,
@@ -20,7 +22,7 @@ pub struct Progress {
 }
 
 // The two tables of sets.
-#[derive(Drop)]
+#[derive(Clone, Copy)]
 pub enum Table {
     Flow,
     Comm,
@@ -107,6 +109,7 @@ pub enum LineFault {
 }
 
 // The fault of the line of row n, of whose numbers one may be above the limit.
+#[tactic(auto, unfolding(crate::specs::Lines::row_line_fault))]
 pub fn row_fault(p: Progress, n: usize, above: bool) -> LineFault
     requires { Small p }
     ensures { fault_read result ≡ row_line_fault p n above }
@@ -128,6 +131,7 @@ pub fn row_fault(p: Progress, n: usize, above: bool) -> LineFault
 }
 
 // The fault of the line of a set with key n, which has a fault of its own or none.
+#[tactic(auto, unfolding(crate::specs::Lines::set_line_fault))]
 pub fn set_fault(p: Progress, table: Table, n: usize, fault: SetFault) -> LineFault
     requires { Small p }
     ensures { fault_read result ≡ set_line_fault table p n fault }
@@ -154,6 +158,7 @@ pub fn set_fault(p: Progress, table: Table, n: usize, fault: SetFault) -> LineFa
 }
 
 // The fault of the line of the claim on row n.
+#[tactic(auto, unfolding(crate::specs::Lines::claim_line_fault))]
 pub fn claim_fault(p: Progress, n: usize) -> LineFault
     ensures { fault_read result ≡ claim_line_fault p n }
 {

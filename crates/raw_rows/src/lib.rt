@@ -1,4 +1,6 @@
 // Rows as read, with numbers up to 999: the limit of their numbers, and the row where none is above it.
+#![tactic(auto)]
+
 ghost use Rattle.std.specs.Prelude.{false, ◌≡◌, ◌%◌, take};
 ghost use Rattle.raw_rows.specs.Raw.{raw_row, row_above, numbers_above};
 
@@ -6,7 +8,7 @@ use program::{Bind, Row};
 use store::Store;
 
 // A row as read, with numbers up to 999. Kind 1 is a result, and 2 to 15 are the codes of the forms.
-#[derive(Drop)]
+#[derive(Clone, Copy)]
 pub struct RawRow {
     pub kind: u8,
     pub name: u16,
@@ -38,6 +40,7 @@ pub fn row_above(raw: RawRow) -> bool
 }
 
 // Whether one of the first numbers, as many as count, is above the limit.
+#[tactic(auto, unfolding(program::specs::Each::every))]
 fn numbers_above(numbers: &[u16], count: usize) -> bool
     ensures { result ≡ numbers_above (take count numbers.now) }
 {

@@ -1,4 +1,6 @@
 // Which row of a program in a store is reached from which by row steps, shown by a grid with a byte for each pair of rows.
+#![tactic(auto)]
+
 ghost use Rattle.std.specs.Prelude.{false, ◌≤◌, length};
 ghost use Rattle.program.specs.Verdict.{reach};
 ghost use Rattle.format.specs.Limits.{row_limit};

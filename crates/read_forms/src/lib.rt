@@ -1,4 +1,6 @@
 // Forms, read from a slice at a position: the word that opens one, and its numbers, up to 999.
+#![tactic(auto)]
+
 ghost use Rattle.std.proofs.Math.Bool.{So};
 ghost use Rattle.std.specs.Prelude.{◌≡◌};
 ghost use Rattle.format.specs.Text.{one_of};
@@ -17,6 +19,7 @@ enum KindRead {
 }
 
 // The answer so far, or, where there is none, what a word at the position says.
+#[tactic(auto, unfolding(crate::specs::Reads::then_word))]
 fn or_word(earlier: KindRead, s: &[u8], at: usize, word: &[u8], kind: u8) -> KindRead
     requires { So (no_zero word.now) }
     ensures { kind_read result ≡ then_word (kind_read earlier) word.now kind s.now at }

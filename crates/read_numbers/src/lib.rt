@@ -1,4 +1,6 @@
 // Numbers of the text form, read from a slice at a position.
+#![tactic(auto)]
+
 ghost use Rattle.std.specs.Prelude.{◌≡◌};
 ghost use Rattle.format.specs.Text.{read_number};
 ghost use Rattle.read_numbers.specs.Numbers.{number_read};
@@ -13,6 +15,7 @@ pub enum NumberRead {
 }
 
 // Reads a number: one to three digits with no leading zero.
+#[tactic(auto, unfolding(format::specs::Text::read_number))]
 pub fn read_number(s: &[u8], at: usize) -> NumberRead
     ensures { number_read result ≡ read_number s.now at }
 {

@@ -1,4 +1,6 @@
 // Rows, read from a slice at a position with numbers up to 999.
+#![tactic(auto)]
+
 ghost use Rattle.std.specs.Prelude.{◌≡◌};
 ghost use Rattle.format.specs.Read.{read_result, read_bind, read_row};
 ghost use Rattle.read_rows.specs.Reads.{row_read};

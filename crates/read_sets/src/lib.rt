@@ -1,4 +1,6 @@
 // Sets, read from a slice at a position: their members are marked in bytes of 0 and 1, and their fault is told.
+#![tactic(auto)]
+
 ghost use Rattle.std.specs.Prelude.{◌≡◌, length, set};
 ghost use Rattle.format.specs.Read.{read_members, read_set};
 ghost use Rattle.read_sets.specs.Sets.{is_above_limit, is_not_rising, set_fault, fault_after, fault_from, SetIs};
@@ -8,7 +10,7 @@ use read_text::Next;
 use store::Store;
 
 // What is wrong with a set: a row is above the limit (3), or else its members do not rise (5).
-#[derive(Drop)]
+#[derive(Clone, Copy)]
 pub enum SetFault {
     Nothing,
     AboveLimit,
@@ -54,6 +56,7 @@ fn mark(flags: &mut [u8], m: usize)
 }
 
 // The fault of a set that goes on with member m, where a rising one goes on with at least `least`.
+#[tactic(auto, unfolding(crate::specs::Sets::fault_after))]
 fn fault_after(fault: SetFault, least: usize, m: usize) -> SetFault
     ensures { result ≡ fault_after fault least m }
 {
@@ -71,6 +74,7 @@ fn fault_after(fault: SetFault, least: usize, m: usize) -> SetFault
 }
 
 // Reads the rest of a set, with a space before each row, and marks its members.
+#[tactic(auto, using(crate::proofs::Members::members_end, crate::proofs::Members::members_stop, crate::proofs::Members::members_row))]
 fn read_members(s: &[u8], from: usize, earlier: SetFault, low: usize, flags: &mut [u8]) -> SetRead
     ensures { SetIs (fault_from earlier low) (read_members (length s.now) s.now from) flags.old result flags.new }
 {
@@ -96,6 +100,7 @@ fn read_members(s: &[u8], from: usize, earlier: SetFault, low: usize, flags: &mu
 }
 
 // Reads a set and marks its members.
+#[tactic(auto, using(crate::proofs::Members::set_stop, crate::proofs::Members::set_unit, crate::proofs::Members::set_row))]
 pub fn read_set(s: &[u8], at: usize, flags: &mut [u8]) -> SetRead
     ensures { SetIs set_fault (read_set s.now at) flags.old result flags.new }
 {

@@ -1,4 +1,6 @@
 // Fixed words and arguments of the text form, read from a slice at a position. The byte at a position is passed on.
+#![tactic(auto)]
+
 ghost use Rattle.std.proofs.Math.Bool.{So};
 ghost use Rattle.std.specs.Prelude.{◌≡◌};
 ghost use Rattle.format.specs.Text.{expect, read_argument};

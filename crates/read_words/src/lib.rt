@@ -1,4 +1,6 @@
 // The words that open lines and claims, read from a slice at a position.
+#![tactic(auto)]
+
 ghost use Rattle.std.specs.Prelude.{◌≡◌};
 ghost use Rattle.format.specs.Text.{one_of};
 ghost use Rattle.format.specs.Read.{line_words, claim_words};
@@ -16,6 +18,7 @@ pub enum SectionRead {
 }
 
 // Reads the word that opens a line.
+#[tactic(auto, unfolding(format::specs::Text::one_of, format::specs::Read::line_words, format::specs::Text::ascii))]
 pub fn read_section(s: &[u8], at: usize) -> SectionRead
     ensures { section_read result ≡ one_of line_words s.now at }
 {
@@ -42,6 +45,7 @@ pub enum WordRead {
 }
 
 // Reads the word of a claim.
+#[tactic(auto, unfolding(format::specs::Text::one_of, format::specs::Read::claim_words, format::specs::Text::ascii))]
 pub fn read_word(s: &[u8], at: usize) -> WordRead
     ensures { word_read result ≡ one_of claim_words s.now at }
 {

@@ -1,4 +1,6 @@
 // What a sync may receive, as one set: the channels of all receives in its set, and what these channels hold.
+#![tactic(auto)]
+
 ghost use Rattle.std.specs.Prelude.{true, ◌≡◌, ◌<◌, ◌≤◌, length};
 ghost use Rattle.format.specs.Limits.{row_limit};
 ghost use Rattle.calls.specs.Layout.{member_limit};
@@ -15,6 +17,7 @@ use store::Store;
 use tables::flow_has;
 
 // Joins a set to another, as bytes of 0 and 1.
+#[tactic(auto, using(crate::proofs::Gathering::takes_short, crate::proofs::Gathering::taken_all))]
 fn join(set: &mut [u8], other: &[u8])
     requires { member_limit ≤ length set.old }
     ensures { Takes (set_of other.now) set.old set.new }
@@ -35,6 +38,7 @@ fn join(set: &mut [u8], other: &[u8])
 const BLOCK: u8 = 16;
 
 // Whether a block begins at row k and none of its rows is in a set. Every row is looked at, so that the loop has no way out but its end.
+#[tactic(auto, using(crate::proofs::Gathering::free_none, crate::proofs::Gathering::free_more))]
 fn block_free(set: &[u8], k: u8) -> bool
     requires { k < row_limit }
     ensures { result ≡ true → Free set.now k 16 }
@@ -58,6 +62,7 @@ fn block_free(set: &[u8], k: u8) -> bool
 }
 
 // Joins the channels of row k, if it is a recv row in the set of name e.
+#[tactic(auto, using(crate::proofs::Receiving::hears_none, crate::proofs::Receiving::hears_recv, crate::proofs::Receiving::hears_other))]
 fn hear_row(store: &[u8], rows: u8, e: u8, k: u8, set: &mut [u8])
     requires sized { Sized rows store.now }
     requires member_limit_in_bounds { member_limit ≤ length set.old }
@@ -91,6 +96,7 @@ pub fn heard(store: &[u8], rows: u8, e: u8) -> [u8; Store::MEMBERS]
 }
 
 // Joins what row k holds, if it is a chan row among the channels.
+#[tactic(auto, using(crate::proofs::Receiving::gives_none, crate::proofs::Receiving::gives_chan, crate::proofs::Receiving::gives_other, crate::proofs::Receiving::among))]
 fn give_row(store: &[u8], rows: u8, channels: &[u8], k: u8, set: &mut [u8])
     requires sized { Sized rows store.now }
     requires member_limit_in_bounds { (member_limit ≤ length channels.now) × (member_limit ≤ length set.old) }

@@ -1,10 +1,13 @@
 // The numbers of refusals.
+#![tactic(auto)]
+
 ghost use Rattle.std.specs.Prelude.{◌≡◌};
 ghost use Rattle.format.specs.Refusals.{number};
 
 use format::Reason;
 
 // The papers' number of a refusal.
+#[tactic(auto, unfolding(format::specs::Refusals::number))]
 pub fn number(reason: Reason) -> u8
     ensures { result ≡ number reason }
 {

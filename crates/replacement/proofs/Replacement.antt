@@ -4,7 +4,6 @@ use native.Mathlib.Omega.{arith}
 use mathlib.Core.Bool.{Bool, true, false, not, ◌&&◌, So, false≢true}
 use mathlib.Core.List.{List, ◌++◌, map}
 use mathlib.Core.Path.{◌≡◌, refl, sym, ap, ◌∙◌, subst}
-use mathlib.Core.Logic.{◌≢◌}
 use lib.ListN.{length, take, drop, take-append-drop}
 use Rattle.program.specs.Each.{every, collect, elem, Each, ◌&◌}
 use Rattle.program.specs.Flow.{Abstract}

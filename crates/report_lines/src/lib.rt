@@ -1,4 +1,6 @@
 // The lines of a report, written at a position.
+#![tactic(auto)]
+
 ghost use Rattle.std.specs.Prelude.{[], ◌∷◌, ◌<◌};
 ghost use Rattle.write_bytes.specs.Write.{Room, Wrote};
 ghost use Rattle.report.specs.Report.{refused_text, accepted_text, yes_no_text, words_text, channel_text};
@@ -6,6 +8,7 @@ ghost use Rattle.report.specs.Report.{refused_text, accepted_text, yes_no_text, 
 use format::Refusal;
 
 // Writes `[refused NUMBER LINE]`.
+#[tactic(auto, using(write_bytes::proofs::Writing::room_first, write_bytes::proofs::Writing::room_then, crate::proofs::Parts::same_room, crate::proofs::Parts::same_argument), unfolding(report::specs::Report::refused_text, format::specs::Text::ascii))]
 pub fn put_refused(out: &mut [u8], at: usize, refusal: Refusal) -> usize
     requires line_bound { refusal.line < 65536 }
     requires room { Room out.old at (refused_text refusal) }
@@ -21,6 +24,7 @@ pub fn put_refused(out: &mut [u8], at: usize, refusal: Refusal) -> usize
 }
 
 // Writes `[accepted N]`.
+#[tactic(auto, using(write_bytes::proofs::Writing::room_first, write_bytes::proofs::Writing::room_then), unfolding(report::specs::Report::accepted_text, format::specs::Text::ascii))]
 pub fn put_accepted(out: &mut [u8], at: usize, claims: u16) -> usize
     requires { Room out.old at (accepted_text claims) }
     ensures { Wrote out.old at (accepted_text claims) result out.new }
@@ -31,6 +35,7 @@ pub fn put_accepted(out: &mut [u8], at: usize, claims: u16) -> usize
 }
 
 // Writes a byte, and `yes` or `no` behind it.
+#[tactic(auto, unfolding(report::specs::Report::yes_no_text, format::specs::Text::ascii))]
 fn put_yes_no(out: &mut [u8], at: usize, before: u8, word: bool) -> usize
     requires { Room out.old at (before ∷ yes_no_text word) }
     ensures { Wrote out.old at (before ∷ yes_no_text word) result out.new }
@@ -43,6 +48,7 @@ fn put_yes_no(out: &mut [u8], at: usize, before: u8, word: bool) -> usize
 }
 
 // Writes `[yes no ..]`.
+#[tactic(auto, using(write_bytes::proofs::Writing::room_first, write_bytes::proofs::Writing::room_then), unfolding(report::specs::Report::words_text, report::specs::Report::more_words_text, format::specs::Text::ascii))]
 fn put_words(
     out: &mut [u8],
     at: usize,

@@ -1,4 +1,6 @@
 // What the program prints of a file, written into lent bytes: the count of its claims and each channel's verdict, or its refusal.
+#![tactic(auto)]
+
 ghost use Rattle.std.specs.Prelude.{◌≤◌, length, take, ◌≡◌};
 ghost use Rattle.calls.specs.Layout.{store_size};
 ghost use Rattle.calls.specs.Calls.{opened};

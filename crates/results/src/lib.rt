@@ -1,4 +1,6 @@
 // The result rows of a program in a store: for each row, the result row that is reached from it by rests.
+#![tactic(auto)]
+
 ghost use Rattle.std.specs.Prelude.{true, ◌≡◌, ◌+◌, ◌<◌, ◌≤◌, length};
 ghost use Rattle.program.specs.Program.{Program, result_row};
 ghost use Rattle.format.specs.Limits.{row_limit};
@@ -10,6 +12,7 @@ use program::Row;
 use store::Store;
 
 // The result row that is reached from row t, rest by rest.
+#[tactic(auto, using(crate::proofs::Following::result_none, crate::proofs::Following::result_end, crate::proofs::Following::result_step, crate::proofs::Following::result_steps))]
 fn follow(store: &[u8], rows: u8, t: u8) -> u8
     ensures { result ≡ result_row (store_program rows store.now) t }
 {
@@ -26,6 +29,7 @@ fn follow(store: &[u8], rows: u8, t: u8) -> u8
 }
 
 // Whether the rest of row r, where it has one, is a greater row that is there.
+#[tactic(auto, using(store::proofs::Laws::program_length), unfolding(crate::specs::Results::rest_rises, program::specs::Program::bind_at, program::specs::Program::bind_of, program::specs::Maybe::when))]
 fn rest_rises(store: &[u8], rows: u8, r: u8) -> bool
     ensures { result ≡ rest_rises (store_program rows store.now) r }
 {
@@ -40,6 +44,7 @@ fn rest_rises(store: &[u8], rows: u8, r: u8) -> bool
 }
 
 // Whether all rests rise.
+#[tactic(auto, using(crate::proofs::Following::rising_none, crate::proofs::Following::rising_more, crate::proofs::Following::rising_all))]
 fn rests_rise(store: &[u8], rows: u8) -> bool
     ensures { result ≡ true → Rising (store_program rows store.now) rows }
 {
@@ -55,6 +60,7 @@ fn rests_rise(store: &[u8], rows: u8) -> bool
 }
 
 // The result row of row t, told by those of the greater rows, where all rests rise.
+#[tactic(auto, using(crate::proofs::Following::result_self, crate::proofs::Following::rest_told))]
 fn from_rest(store: &[u8], rows: u8, results: &[u8], t: u8) -> u8
     requires t_lt_rows { t < rows }
     requires rising { Rising (store_program rows store.now) rows }
@@ -98,6 +104,7 @@ pub fn result_rows(store: &[u8], rows: u8) -> [u8; Store::ROWS]
 }
 
 // The result row of row t, told by those of all rows; a row that is not there is its own.
+#[tactic(auto, using(crate::proofs::Following::result_past))]
 pub fn result_of(rows: u8, results: &[u8], t: u8) -> u8
     ensures { (p : Program) → length p ≡ rows → ResultRows p rows results.now → result ≡ result_row p t }
 {

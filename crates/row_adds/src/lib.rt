@@ -1,4 +1,6 @@
 // The rule of a row: what it asks is added.
+#![tactic(auto)]
+
 ghost use Rattle.std.specs.Prelude.{◌<◌};
 ghost use Rattle.program.specs.Flow.{keeps_form, keeps_at};
 ghost use Rattle.program.specs.Each.{Each};
@@ -16,6 +18,7 @@ use rule_adds::{Ask, each_adds};
 use set_adds::{either, put_member};
 
 // Adds what the rule of a form at row r asks, where its bind has the name n. The last arm is that of the value rows other than fun.
+#[tactic(auto, using(crate::proofs::Rows::own_low), unfolding(program::specs::Flow::keeps_form, inference::specs::Inference::abstract_of))]
 fn form_adds(store: &mut [u8], rows: u8, r: u8, n: u8, form: Form, names: &[u8]) -> bool
     requires ready { Ready rows store.old }
     requires names { Names (store_program rows store.old) names.now }
@@ -72,6 +75,7 @@ fn form_adds(store: &mut [u8], rows: u8, r: u8, n: u8, form: Form, names: &[u8])
 }
 
 // Adds what the rule of row r asks; a result has none.
+#[tactic(auto, using(crate::proofs::Rows::result_keeps))]
 pub fn row_adds(store: &mut [u8], rows: u8, r: u8, names: &[u8]) -> bool
     requires ready { Ready rows store.old }
     requires names { Names (store_program rows store.old) names.now }

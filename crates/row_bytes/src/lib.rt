@@ -1,4 +1,6 @@
 // The rows of a store as bytes: how many there are, and whether each has the bytes of a row.
+#![tactic(auto)]
+
 ghost use Rattle.std.specs.Prelude.{◌≡◌, ◌≤◌, length};
 ghost use Rattle.format.specs.Limits.{row_limit};
 ghost use Rattle.calls.specs.Layout.{row_size, store_size};
@@ -9,6 +11,7 @@ use byte_tests::all_below;
 use store::Store;
 
 // How many bytes a row of this kind uses; 0 for a number that is no kind.
+#[tactic(auto, unfolding(crate::specs::Rows::used_bytes))]
 fn used_bytes(kind: u8) -> usize
     ensures { (result ≡ used_bytes kind) × (result ≤ row_size) }
 {
@@ -21,6 +24,7 @@ fn used_bytes(kind: u8) -> usize
 }
 
 // Whether some row with numbers below the limit has these bytes.
+#[tactic(auto, using(crate::proofs::RowBytes::row_none, crate::proofs::RowBytes::row_unused))]
 fn row_sound(row: &[u8]) -> bool
     requires { length row.now ≡ row_size }
     ensures { result ≡ row_sound row.now }
@@ -37,6 +41,7 @@ fn row_sound(row: &[u8]) -> bool
 }
 
 // How many rows stand before the first of kind 0.
+#[tactic(auto, using(crate::proofs::Counting::counted_stops, crate::proofs::Counting::counted_goes, crate::proofs::Counting::counted_all))]
 pub fn count_rows(store: &[u8]) -> u8
     ensures { (result ≡ count_rows row_limit store.now) × (result ≤ row_limit) }
 {
@@ -52,6 +57,7 @@ pub fn count_rows(store: &[u8]) -> u8
 }
 
 // Whether each of the first rows has the bytes of a row.
+#[tactic(auto, using(crate::proofs::FirstRows::rows_go, crate::proofs::FirstRows::rows_fail, crate::proofs::FirstRows::rows_end))]
 pub fn rows_sound(store: &[u8], rows: u8) -> bool
     requires store_len { length store.now ≡ store_size }
     requires rows_le_row_limit { rows ≤ row_limit }

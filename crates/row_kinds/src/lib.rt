@@ -1,4 +1,6 @@
 // The rows of a program in a store as far as row steps ask: their kinds.
+#![tactic(auto)]
+
 ghost use Rattle.std.specs.Prelude.{◌≡◌};
 ghost use Rattle.store.specs.Rows.{store_program};
 ghost use Rattle.row_kinds.specs.Kinds.{kind_of, kind_at};
@@ -89,6 +91,7 @@ fn kind_of(form: Form, rest: u8) -> Kind
 }
 
 // The kind of row r.
+#[tactic(auto, unfolding(crate::specs::Kinds::kind_at, crate::specs::Kinds::kind_of_row))]
 pub fn kind_at(store: &[u8], rows: u8, r: u8) -> Kind
     ensures { result ≡ kind_at (store_program rows store.now) r }
 {

@@ -10,6 +10,8 @@ use Rattle.program.specs.declared.Row.{Row}
 use Rattle.program.specs.Test.{all}
 use Rattle.program.specs.Each.{collect}
 use Rattle.program.proofs.Test.{all_elim}
+use lib.Seq.{length-take-le}
+use Rattle.format.proofs.Lengths.{argument-length, arguments-length}
 use Rattle.format.specs.Text.{Bytes, ascii, argument, arguments}
 use Rattle.format.specs.Forms.{arity, form_of}
 use Rattle.format.specs.Document.{row}
@@ -82,3 +84,6 @@ lines_end n r s h = rw (rows_end n r s h)
 -- the lines of fewer than 256 rows
 pub rows_short : (n : ℕ) (s : Bytes) → n < 256 → length (collect line_text (row_lines 0 (store_program n s))) ≤ 25600
 rows_short n s h = omega (arith, rows_length 0 (store_program n s), program_length n s)
+
+-- how long the texts of numbers can be
+pub ruleset sizes = (argument-length, arguments-length, length-take-le)

@@ -1,4 +1,6 @@
 // How long the lines of rows are, by their kinds and numbers; nothing is written. A row is read as it stands in the store: its kind, its name, its rest and five numbers.
+#![tactic(auto)]
+
 ghost use Rattle.std.specs.Prelude.{◌≡◌, ◌≤◌, length};
 ghost use Rattle.program.specs.Each.{collect};
 ghost use Rattle.format.specs.Text.{arguments};
@@ -14,6 +16,7 @@ use number_lengths::argument_length;
 use store::Store;
 
 // The length of numbers, each with a space before it.
+#[tactic(auto, using(crate::proofs::Rows::numbers_next, crate::proofs::Rows::numbers_end, crate::proofs::Rows::sizes))]
 fn arguments_length(numbers: &[u8]) -> usize
     requires { length numbers.now ≤ 5 }
     ensures { result ≡ length (arguments numbers.now) }
@@ -29,6 +32,7 @@ fn arguments_length(numbers: &[u8]) -> usize
 }
 
 // The length of the word of a kind, with the bracket before it.
+#[tactic(auto, using(kinds::proofs::Counts::place_below, crate::proofs::Rows::word_length))]
 fn kind_length(kind: u8) -> usize
     ensures { result ≡ length (kind_word kind) }
 {
@@ -38,6 +42,7 @@ fn kind_length(kind: u8) -> usize
 }
 
 // The length of the form of a kind and five numbers, of which it holds the first.
+#[tactic(auto, using(write_forms::proofs::Words::arity_few, crate::proofs::Rows::word_short, crate::proofs::Rows::form_sum, crate::proofs::Rows::sizes))]
 fn form_length(kind: u8, numbers: &[u8]) -> usize
     requires { length numbers.now ≡ 5 }
     ensures { result ≡ length (form_text (form_of kind numbers.now)) }
@@ -49,6 +54,7 @@ fn form_length(kind: u8, numbers: &[u8]) -> usize
 }
 
 // The length of a row.
+#[tactic(auto, using(write_store::proofs::Bounds::row_length, crate::proofs::Rows::result_sum, crate::proofs::Rows::bind_sum, crate::proofs::Rows::sizes))]
 fn row_length(row: &[u8]) -> usize
     requires { length row.now ≡ row_size }
     ensures { result ≡ length (row_text (row_of row.now)) }
@@ -64,6 +70,7 @@ fn row_length(row: &[u8]) -> usize
 }
 
 // The length of the line of row r.
+#[tactic(auto, using(write_store::proofs::Bounds::row_length, crate::proofs::Rows::line_sum, crate::proofs::Rows::sizes))]
 fn row_line_length(r: u8, x: &[u8]) -> usize
     requires { length x.now ≡ row_size }
     ensures { result ≡ length (line_text (row r (row_of x.now))) }

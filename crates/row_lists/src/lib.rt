@@ -1,4 +1,6 @@
 // Lists of rows as bytes: first how many there are, then the rows. The rows of a kind as a list.
+#![tactic(auto)]
+
 ghost use Rattle.std.specs.Prelude.{◌≤◌};
 ghost use Rattle.format.specs.Limits.{row_limit};
 ghost use Rattle.row_lists.specs.Lists.{Lists, of_kind};
@@ -17,6 +19,7 @@ pub const SPAWN: u8 = 10;
 pub const SYNC: u8 = 11;
 
 // The rows of a kind, rising.
+#[tactic(auto, using(crate::proofs::Listing::has_none, crate::proofs::Listing::lists_done, crate::proofs::OfKind::below_none, crate::proofs::OfKind::kind_other, crate::proofs::OfKind::kind_here))]
 pub fn rows_of_kind(store: &[u8], rows: u8, kind: u8) -> [u8; Store::MEMBERS]
     requires { rows ≤ row_limit }
     ensures { Lists rows (of_kind store.now kind) result }

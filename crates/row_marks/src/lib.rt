@@ -1,4 +1,6 @@
 // Sets of rows as bytes: a row is in the set if its byte is not 0.
+#![tactic(auto)]
+
 ghost use Rattle.std.specs.Prelude.{true, ◌≡◌, ◌≤◌, length};
 ghost use Rattle.format.specs.Limits.{row_limit};
 ghost use Rattle.row_marks.specs.RowMarks.{three_meet, NoneMarked};

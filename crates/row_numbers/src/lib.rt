@@ -1,4 +1,6 @@
 // The rows that a row points at, and the names that it binds: three at most, in their order.
+#![tactic(auto)]
+
 ghost use Rattle.std.specs.Prelude.{◌≡◌, [], ◌∷◌, ◌++◌};
 ghost use Rattle.program.specs.Program.{rows_of, binders_of, pointers, binders};
 ghost use Rattle.row_numbers.specs.Numbers.{numbers_of};
@@ -6,7 +8,7 @@ ghost use Rattle.row_numbers.specs.Numbers.{numbers_of};
 use program::{Form, Row};
 
 // Up to three numbers.
-#[derive(Drop)]
+#[derive(Clone, Copy)]
 pub enum Few {
     Zero,
     One(u8),
@@ -37,6 +39,7 @@ fn rows_of(form: Form, rest: u8) -> Few
 }
 
 // The rows that a row points at.
+#[tactic(auto, unfolding(program::specs::Program::pointers))]
 pub fn pointers_of(row: Row) -> Few
     ensures { numbers_of result ≡ pointers row }
 {
@@ -76,6 +79,7 @@ fn names_of(name: u8, form: Form) -> Few
 }
 
 // The names that a row binds.
+#[tactic(auto, unfolding(program::specs::Program::binders))]
 pub fn binders_of(row: Row) -> Few
     ensures { numbers_of result ≡ binders row }
 {

@@ -3,12 +3,11 @@ use Prim.Native.Nat.{ℕ, ◌<◌}
 use mathlib.Core.Bool.{Bool, ◌&&◌, and-true}
 use mathlib.Core.Path.{◌≡◌, sym}
 use Rattle.program.specs.declared.Form.{Form}
-use Rattle.program.specs.declared.Form.TheVariants.{Pair, Left, Right, Fun, Case, Apply}
+use Rattle.program.specs.declared.Form.TheVariants.{Pair, Left, Right, Fun}
 use Rattle.program.specs.Maybe.{when}
 use Rattle.program.specs.Test.{all}
 use Rattle.program.specs.Program.{Program, row_at, result_row, result_name}
 use Rattle.program.specs.Flow.{lies, for_each}
-use Rattle.program.specs.Each.{◌&◌}
 use Rattle.format.specs.Limits.{row_limit}
 use Rattle.format.specs.Text.{Bytes, byte_at}
 use Rattle.format.specs.Print.{form_numbers}

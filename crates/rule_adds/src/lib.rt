@@ -1,4 +1,6 @@
 // The rule of a form: what it asks of each row in its set is added.
+#![tactic(auto)]
+
 ghost use Rattle.std.specs.Prelude.{◌&&◌, ◌<◌, ◌≤◌, length};
 ghost use Rattle.program.specs.Flow.{lies, for_each};
 ghost use Rattle.format.specs.Limits.{row_limit};
@@ -16,7 +18,7 @@ use set_adds::{Variable, add_set, either};
 use tables::flow_has;
 
 // What a form asks of each row in its set: its kind, and the names whose sets it compares with that of the row. Of a sync, what it sends; what it receives is asked of all rows together (recv_adds).
-#[derive(Drop)]
+#[derive(Clone, Copy)]
 pub enum Ask {
     Send,
     First,
@@ -31,6 +33,7 @@ pub enum Ask {
 }
 
 // Adds what a first asks of row k: a pair's first name.
+#[tactic(auto, using(forms::proofs::Forms::pair_at_lem, set_adds::proofs::Adding::adds_none, crate::proofs::Asking::pair_low, crate::proofs::Asking::first_pair), unfolding(crate::specs::Rules::ask_rule, program::specs::Maybe::when, set_adds::specs::Adding::number_of, set_adds::specs::Adding::set_at))]
 fn first_adds(store: &mut [u8], rows: u8, n: u8, k: u8) -> bool
     requires ready { Ready rows store.old }
     requires n_lt_row_limit { n < row_limit }
@@ -43,6 +46,7 @@ fn first_adds(store: &mut [u8], rows: u8, n: u8, k: u8) -> bool
 }
 
 // Adds what a second asks of row k: a pair's second name.
+#[tactic(auto, using(forms::proofs::Forms::pair_at_lem, set_adds::proofs::Adding::adds_none, crate::proofs::Asking::pair_low, crate::proofs::Asking::second_pair), unfolding(crate::specs::Rules::ask_rule, program::specs::Maybe::when, set_adds::specs::Adding::number_of, set_adds::specs::Adding::set_at))]
 fn second_adds(store: &mut [u8], rows: u8, n: u8, k: u8) -> bool
     requires ready { Ready rows store.old }
     requires n_lt_row_limit { n < row_limit }
@@ -65,6 +69,7 @@ fn both_add(store: &mut [u8], rows: u8, a: u8, x: u8, b: u8, n: u8) -> bool
 }
 
 // Adds what a case asks of row k: the branch of a left or a right.
+#[tactic(auto, using(forms::proofs::Forms::left_at_lem, forms::proofs::Forms::right_at_lem, forms::proofs::Forms::no_left, forms::proofs::Forms::no_right, set_adds::proofs::Adding::adds_none, crate::proofs::Asking::left_low, crate::proofs::Asking::right_low, crate::proofs::Asking::case_left, crate::proofs::Asking::case_right), unfolding(crate::specs::Rules::AskLow, crate::specs::Rules::ask_rule, program::specs::Maybe::when))]
 fn case_adds(
     store: &mut [u8],
     rows: u8,
@@ -106,6 +111,7 @@ fn apply_adds(store: &mut [u8], rows: u8, n: u8, argument: u8, names: &[u8], k: 
 }
 
 // Adds what a form asks of row k.
+#[tactic(auto, unfolding(crate::specs::Rules::AskLow, crate::specs::Rules::ask_rule))]
 fn asked_adds(store: &mut [u8], rows: u8, n: u8, ask: Ask, names: &[u8], k: u8) -> bool
     requires ready { Ready rows store.old }
     requires names { Names (store_program rows store.old) names.now }

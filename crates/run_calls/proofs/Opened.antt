@@ -1,7 +1,7 @@
 -- What is known where a run opens.
 use Prim.Native.Nat.{ℕ, ◌≤◌}
 use native.Mathlib.Omega.{arith}
-use mathlib.Core.Bool.{Bool, true, false, not, ◌&&◌, ◌||◌, So}
+use mathlib.Core.Bool.{Bool, true, false, ◌&&◌, ◌||◌, So}
 use mathlib.Core.List.{List}
 use mathlib.Core.Path.{◌≡◌, refl, sym, ◌∙◌, ap}
 use lib.ListN.{length, take}

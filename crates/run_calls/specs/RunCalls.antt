@@ -16,7 +16,7 @@ use Rattle.calls.specs.Answers.{Answer, answered, refusal_answer}
 use Rattle.calls.specs.Calls.{is_empty, unsound, opened_fixed}
 use Rattle.calls.specs.Layout.{store_size, decode}
 use Rattle.machine.specs.declared.ThreadRecord.{ThreadRecord}
-use Rattle.machine.specs.Machine.{Machine, Change, Order, alone, together, changes, changed_all, within, thread_limit}
+use Rattle.machine.specs.Machine.{Change, Order, alone, together, changes, changed_all, within, thread_limit}
 use Rattle.run_memory.specs.RunMemory.{run_size, in_use, counts, counted, machine_in, sound_run, bytes_after, threads_after}
 use Rattle.run_calls.specs.declared.RunAnswer.{RunAnswer}
 

@@ -1,4 +1,6 @@
 // The run memory: slots of eight bytes, which hold the counts in use, the cells and the frames.
+#![tactic(auto)]
+
 ghost use Rattle.std.specs.Prelude.{◌≡◌, ◌+◌, ◌*◌, ◌≤◌, ◌<◌, length};
 ghost use Rattle.machine.specs.declared.Kept.{Kept};
 ghost use Rattle.machine.specs.Machine.{cell_limit, frame_limit, thread_limit, next_frame};
@@ -18,7 +20,7 @@ pub struct Slot {
 }
 
 // How many threads, cells and frames are in use.
-#[derive(Drop)]
+#[derive(Clone, Copy)]
 pub struct InUse {
     pub threads: u8,
     pub cells: u16,
@@ -44,6 +46,7 @@ impl Run {
 }
 
 // A number of two bytes, the low one first.
+#[tactic(auto, unfolding(crate::specs::RunMemory::word_at))]
 fn word_at(run: &[u8], at: usize) -> u16
     requires { at < 1048576 }
     ensures { result ≡ word_at run.now at }
@@ -54,6 +57,7 @@ fn word_at(run: &[u8], at: usize) -> u16
 }
 
 // The slot of this number.
+#[tactic(auto, unfolding(crate::specs::RunMemory::slot_at))]
 fn slot_at(run: &[u8], k: u16) -> Slot
     ensures { result ≡ slot_at run.now k }
 {
@@ -68,6 +72,7 @@ fn slot_at(run: &[u8], k: u16) -> Slot
 }
 
 // How much is in use.
+#[tactic(auto, unfolding(crate::specs::RunMemory::in_use))]
 pub fn in_use(run: &[u8]) -> InUse
     ensures { result ≡ in_use run.now }
 {
@@ -80,6 +85,7 @@ pub fn in_use(run: &[u8]) -> InUse
 }
 
 // What a cell of this kind keeps.
+#[tactic(auto, unfolding(crate::specs::RunMemory::kept_of))]
 fn kept_of(kind: u8, row: u8, cell: u16) -> Kept
     ensures { result ≡ kept_of kind row cell }
 {
@@ -92,6 +98,7 @@ fn kept_of(kind: u8, row: u8, cell: u16) -> Kept
 }
 
 // The cell of this number.
+#[tactic(auto, unfolding(crate::specs::RunMemory::cell_at, crate::specs::RunMemory::cell_of_slot))]
 pub fn cell_at(run: &[u8], k: u16) -> Cell
     ensures { result ≡ cell_at run.now k }
 {
@@ -104,6 +111,7 @@ pub fn cell_at(run: &[u8], k: u16) -> Cell
 }
 
 // The frame of this number.
+#[tactic(auto, unfolding(crate::specs::RunMemory::frame_at, crate::specs::RunMemory::frame_of_slot))]
 pub fn frame_at(run: &[u8], k: u16) -> Frame
     requires { k ≤ frame_limit }
     ensures { result ≡ frame_at run.now k }
@@ -118,6 +126,7 @@ pub fn frame_at(run: &[u8], k: u16) -> Frame
 }
 
 // Writes a slot.
+#[tactic(auto, unfolding(crate::specs::RunMemory::put_slot, crate::specs::RunMemory::slot_bytes))]
 fn put_slot(run: &mut [u8], k: u16, s: Slot)
     requires { slot_size * k + slot_size ≤ length run.old }
     ensures { run.new ≡ put_slot run.old k s }
@@ -136,6 +145,7 @@ fn put_slot(run: &mut [u8], k: u16, s: Slot)
 }
 
 // Writes how much is in use.
+#[tactic(auto, unfolding(crate::specs::RunMemory::counted))]
 pub fn put_counts(run: &mut [u8], n: InUse)
     requires { run_size ≤ length run.old }
     ensures { run.new ≡ counted run.old n }
@@ -151,6 +161,7 @@ pub fn put_counts(run: &mut [u8], n: InUse)
 }
 
 // The slot of a cell that keeps a value.
+#[tactic(auto, unfolding(crate::specs::RunMemory::slot_of_cell))]
 fn slot_of_held(name: u8, older: u16, held: Held) -> Slot
     ensures { result ≡ slot_of_cell (record { name = name; older = older; kept = Kept.Keeps held }) }
 {
@@ -180,6 +191,7 @@ fn slot_of_held(name: u8, older: u16, held: Held) -> Slot
 }
 
 // The slot of a cell.
+#[tactic(auto, unfolding(crate::specs::RunMemory::slot_of_cell))]
 fn slot_of_cell(cell: Cell) -> Slot
     ensures { result ≡ slot_of_cell cell }
 {
@@ -197,6 +209,7 @@ fn slot_of_cell(cell: Cell) -> Slot
 }
 
 // Takes a cell.
+#[tactic(auto, unfolding(crate::specs::RunMemory::push_cell))]
 pub fn push_cell(run: &mut [u8], cell: Cell)
     requires run_size_in_bounds { run_size ≤ length run.old }
     requires run_bound { (in_use run.old).cells < cell_limit }
@@ -225,6 +238,7 @@ pub fn next_frame(run: &[u8]) -> u16
 }
 
 // Takes a frame. Nothing is given back during a run.
+#[tactic(auto, unfolding(crate::specs::RunMemory::push_frame, crate::specs::RunMemory::slot_of_frame))]
 pub fn push_frame(run: &mut [u8], frame: Frame)
     requires run_size_in_bounds { run_size ≤ length run.old }
     requires run_bound { (in_use run.old).frames < frame_limit }
@@ -254,6 +268,7 @@ pub fn push_frame(run: &mut [u8], frame: Frame)
 }
 
 // Counts one thread more.
+#[tactic(auto, unfolding(crate::specs::RunMemory::push_thread))]
 pub fn push_thread(run: &mut [u8])
     requires run_size_in_bounds { run_size ≤ length run.old }
     requires run_bound { (in_use run.old).threads < thread_limit }

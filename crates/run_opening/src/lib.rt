@@ -1,4 +1,6 @@
 // 20, 21 and 22 of the run calls, each asked of everything that is lent before the next.
+#![tactic(auto)]
+
 ghost use Rattle.std.specs.Prelude.{◌≡◌, take};
 ghost use Rattle.format.specs.Refusals.{refusal};
 ghost use Rattle.calls.specs.Layout.{store_size};
@@ -14,6 +16,7 @@ use store::Store;
 use thread_records::Records;
 
 // 20: the store, the run memory or the records are too short.
+#[tactic(auto, unfolding(run_calls::specs::RunCalls::too_short))]
 pub fn too_short(store: &[u8], run: &[u8], lent: usize) -> bool
     ensures { result ≡ too_short store.now run.now lent }
 {

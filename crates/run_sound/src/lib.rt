@@ -1,4 +1,6 @@
 // 22 of run memory: whether nothing in use names what is not there. Cells, frames and threads are tested from the newest on, to the first fault.
+#![tactic(auto)]
+
 ghost use Rattle.std.specs.Prelude.{◌≡◌, ◌≤◌, length, take};
 ghost use Rattle.program.specs.Each.{every};
 ghost use Rattle.program.specs.Program.{Program};

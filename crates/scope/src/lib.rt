@@ -1,4 +1,6 @@
 // Scope, down the tree of a program's rows in a store. A scope has a byte for each name: 1 where the name is in scope.
+#![tactic(auto)]
+
 ghost use Rattle.std.specs.Prelude.{◌≡◌, get_or, set, ◌+◌, ◌*◌, ◌-◌, ◌<◌, min};
 ghost use Rattle.format.specs.Scope.{use_fault, row_fault, form_fault, scope_fault};
 ghost use Rattle.store.specs.Rows.{store_program};
@@ -15,6 +17,7 @@ fn least(a: u8, b: u8) -> u8
 }
 
 // Row r if its name n is not in scope, else NO_ROW.
+#[tactic(auto, unfolding(format::specs::Scope::use_fault))]
 fn use_of(r: u8, n: u8, scope: &[u8]) -> u8
     ensures { result ≡ use_fault r n scope.now }
 {

@@ -1,4 +1,6 @@
 // Which numbers were seen: a byte for each, 1 where it was seen. The marks are lent, and each step answers whether a number was seen again.
+#![tactic(auto)]
+
 ghost use Rattle.std.specs.Prelude.{[], ◌∷◌};
 ghost use Rattle.row_numbers.specs.Numbers.{numbers_of};
 ghost use Rattle.seen.specs.Seen.{Adds};
@@ -10,6 +12,7 @@ use row_numbers::Few;
 pub const NUMBERS: usize = 256;
 
 // One number more: 1 if it was seen already, else 0.
+#[tactic(auto, using(crate::proofs::Marking::adds_one))]
 fn see(marks: &mut [u8; NUMBERS], n: u8) -> u8
     ensures { Adds marks.old (n ∷ []) marks.new result }
 {
@@ -20,6 +23,7 @@ fn see(marks: &mut [u8; NUMBERS], n: u8) -> u8
 }
 
 // The numbers of a list more, in their order: 1 if one was seen already, else 0.
+#[tactic(auto, using(crate::proofs::Marking::adds_none, crate::proofs::Marking::adds_then))]
 pub fn see_few(marks: &mut [u8; NUMBERS], few: Few) -> u8
     ensures { Adds marks.old (numbers_of few) marks.new result }
 {

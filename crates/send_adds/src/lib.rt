@@ -1,4 +1,6 @@
 // The rule of a sync for what it sends: what it asks of the channels of a send row in its set is added.
+#![tactic(auto)]
+
 ghost use Rattle.std.specs.Prelude.{◌<◌, ◌≤◌, length};
 ghost use Rattle.program.specs.Flow.{for_each_chan};
 ghost use Rattle.format.specs.Limits.{row_limit};
@@ -52,6 +54,7 @@ fn chans_add(store: &mut [u8], rows: u8, n: u8, message: u8, c: u8) -> bool
 }
 
 // Adds what a sync asks of the channels of row k, if that is a send row.
+#[tactic(auto, using(forms::proofs::Forms::send_at_lem, set_adds::proofs::Adding::adds_none, crate::proofs::Sending::send_low, crate::proofs::Sending::send_sent), unfolding(crate::specs::Sends::send_row_rule, program::specs::Maybe::when))]
 pub fn send_adds(store: &mut [u8], rows: u8, n: u8, k: u8) -> bool
     requires ready { Ready rows store.old }
     requires n_lt_row_limit { n < row_limit }

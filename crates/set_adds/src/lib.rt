@@ -1,4 +1,6 @@
 // Sets of a store that are added to: a set joined to another, a member put in.
+#![tactic(auto)]
+
 ghost use Rattle.std.specs.Prelude.{◌||◌, ◌≡◌, ℕ, ◌+◌, ◌<◌, ◌≤◌, length};
 ghost use Rattle.format.specs.Limits.{row_limit};
 ghost use Rattle.format.specs.Text.{byte_at};
@@ -28,6 +30,7 @@ pub fn either(a: bool, b: bool) -> bool
 }
 
 // A member's byte with that of another set joined to it.
+#[tactic(auto, unfolding(crate::specs::Adding::joined))]
 fn join(own: u8, other: u8) -> u8
     ensures { result ≡ joined own other }
 {
@@ -35,6 +38,7 @@ fn join(own: u8, other: u8) -> u8
 }
 
 // Where a set stands in a store.
+#[tactic(auto, unfolding(crate::specs::Adding::position_of))]
 fn position(place: Variable) -> usize
     requires { number_of place < row_limit }
     ensures { result ≡ position_of place }
@@ -80,6 +84,7 @@ fn join_set(store: &mut [u8], at: usize, members: usize, set: &[u8]) -> bool
 }
 
 // Adds a set to another, as far as the program's rows go.
+#[tactic(auto, using(crate::proofs::Variables::before_claims))]
 pub fn add_set(store: &mut [u8], rows: u8, from: Variable, to: Variable) -> bool
     requires store_size_in_bounds { (store_size ≤ length store.old) × (rows ≤ row_limit) }
     requires from_bound { (number_of from < row_limit) × (number_of to < row_limit) }
@@ -100,6 +105,7 @@ pub fn add_members(store: &mut [u8], rows: u8, n: u8, set: &[u8]) -> bool
 }
 
 // Puts a member into the set of a name.
+#[tactic(auto, using(crate::proofs::Adding::put_there))]
 pub fn put_member(store: &mut [u8], n: u8, member: usize) -> bool
     requires { (store_size ≤ length store.old) × (n < row_limit) × (member < member_limit) }
     ensures { Adds (λ flow comm. flow n (abstract_of member)) store.old store.new result }

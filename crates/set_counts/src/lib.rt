@@ -1,4 +1,6 @@
 // Whether a set has a member, and how many sets have one. A set has a byte for each member, which is not 0 where the member is in the set: unit is member 0, and row r is r + 1.
+#![tactic(auto)]
+
 ghost use Rattle.std.specs.Prelude.{◌≡◌, ◌≤◌, length};
 ghost use Rattle.format.specs.Limits.{row_limit};
 ghost use Rattle.format.specs.Read.{present};

@@ -1,4 +1,6 @@
 // How long the lines of sets are, by how many members have more than one digit, and more than two; nothing is written. A set has a byte for each member, which is not 0 where the member is in the set: unit is member 0, and row r is r + 1.
+#![tactic(auto)]
+
 ghost use Rattle.std.specs.Prelude.{[], ◌≡◌, ◌≤◌, length};
 ghost use Rattle.program.specs.Each.{collect};
 ghost use Rattle.format.specs.Limits.{row_limit};
@@ -22,6 +24,7 @@ fn is_member(b: u8) -> u8
 }
 
 // How many members a set has. The count is a byte and every byte is looked at, so that the loop takes many at a time.
+#[tactic(auto, using(number_lengths::proofs::Sums::onward, number_lengths::proofs::Sums::within, number_lengths::proofs::Sums::finished, crate::proofs::Members::count_next, crate::proofs::Members::count_end, crate::proofs::Rulesets::count_members_facts))]
 fn count_members(flags: &[u8]) -> usize
     requires { length flags.now ≤ 255 }
     ensures { result ≡ length (members_from 0 flags.now) }
@@ -37,6 +40,7 @@ fn count_members(flags: &[u8]) -> usize
 }
 
 // The length of the members of a set, each with a space before it, and the closing bracket: a member takes two bytes, from row 10 on one more, and from row 100 on one more again.
+#[tactic(auto, using(crate::proofs::Members::members_sum, crate::proofs::Lines::members_short))]
 fn members_length(flags: &[u8]) -> usize
     requires { length flags.now ≡ member_limit }
     ensures { result ≡ length (members_text (members_from 0 flags.now)) }
@@ -48,6 +52,7 @@ fn members_length(flags: &[u8]) -> usize
 }
 
 // The length of the line of a set, or 0 where the set is empty.
+#[tactic(auto, using(crate::proofs::Lines::members_short, crate::proofs::Lines::no_line, crate::proofs::Lines::line_sum, crate::proofs::Rulesets::set_line_length_facts))]
 fn set_line_length(word: &[u8], n: u8, flags: &[u8]) -> usize
     requires word_len_bound { length word.now ≤ 10 }
     requires flags_len { length flags.now ≡ member_limit }
@@ -62,6 +67,7 @@ fn set_line_length(word: &[u8], n: u8, flags: &[u8]) -> usize
 }
 
 // The length of the lines of the sets of all names or channels; their bytes stand at the head of a slice. Only the sets of marked keys are looked at.
+#[tactic(auto, using(number_lengths::proofs::Sums::same_rest, number_lengths::proofs::Sums::onward, number_lengths::proofs::Sums::within, number_lengths::proofs::Sums::finished, write_store::proofs::Bounds::sets_length, crate::proofs::Lines::lines_skip, crate::proofs::Lines::lines_next, crate::proofs::Lines::lines_end))]
 pub fn sets_length(word: &[u8], sets: &[u8], keys: &[u8]) -> usize
     requires word_len_bound { length word.now ≤ 10 }
     requires sets_size_in_bounds { sets_size ≤ length sets.now }

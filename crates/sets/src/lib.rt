@@ -1,4 +1,6 @@
 // Sets as bytes, a byte for each member: unit first, then the rows. The sets of a store, and whether one lies in another.
+#![tactic(auto)]
+
 ghost use Rattle.std.specs.Prelude.{◌≡◌, ◌+◌, ◌≤◌, length};
 ghost use Rattle.program.specs.Flow.{lies};
 ghost use Rattle.format.specs.Limits.{row_limit};
@@ -11,6 +13,7 @@ use byte_order::larger;
 use store::Store;
 
 // The byte of a member in a set, or 0 where another set has it too.
+#[tactic(auto, unfolding(crate::specs::Sets::unless_in))]
 pub fn unless_in(a: u8, b: u8) -> u8
     ensures { result ≡ unless_in a b }
 {
@@ -18,6 +21,7 @@ pub fn unless_in(a: u8, b: u8) -> u8
 }
 
 // Whether b has each of the first members that a has. Every member is looked at, so that the loop has no way out but its end.
+#[tactic(auto, using(crate::proofs::Members::unless_in_step), unfolding(crate::specs::Sets::within, program::specs::Test::all))]
 fn within(a: &[u8], b: &[u8], members: usize) -> bool
     requires { (members ≤ length a.now) × (members ≤ length b.now) }
     ensures { result ≡ within members a.now b.now }
@@ -33,6 +37,7 @@ fn within(a: &[u8], b: &[u8], members: usize) -> bool
 }
 
 // Whether the first set lies in the second, where a program has so many rows.
+#[tactic(auto, using(crate::proofs::Members::lies_short, crate::proofs::Members::within_lies))]
 pub fn lies_in(a: &[u8], b: &[u8], rows: u8) -> bool
     requires { rows ≤ row_limit }
     ensures { result ≡ lies_below rows (set_of a.now) (set_of b.now) }
@@ -53,6 +58,7 @@ pub fn lies_in(a: &[u8], b: &[u8], rows: u8) -> bool
 }
 
 // The bytes of the set of name or channel row n, of the sets that begin at a base; no bytes where there is no such set.
+#[tactic(auto, unfolding(crate::specs::Sets::part_at))]
 fn set_at(store: &[u8], base: usize, n: u8) -> &[u8]
     requires { base + sets_size ≤ length store.now }
     ensures { result.now ≡ part_at store.now base n }
@@ -67,6 +73,7 @@ fn set_at(store: &[u8], base: usize, n: u8) -> &[u8]
 }
 
 // The set of name n.
+#[tactic(auto, using(crate::proofs::Members::flow_part))]
 pub fn flow_set(store: &[u8], n: u8) -> &[u8]
     requires { store_size ≤ length store.now }
     ensures { set_of result.now ≡ store_flow store.now n }
@@ -75,6 +82,7 @@ pub fn flow_set(store: &[u8], n: u8) -> &[u8]
 }
 
 // The set of channel row c.
+#[tactic(auto, using(crate::proofs::Members::comm_part))]
 pub fn comm_set(store: &[u8], c: u8) -> &[u8]
     requires { store_size ≤ length store.now }
     ensures { set_of result.now ≡ store_comm store.now c }
@@ -83,6 +91,7 @@ pub fn comm_set(store: &[u8], c: u8) -> &[u8]
 }
 
 // Whether the set of name n lies in a set.
+#[tactic(auto, using(crate::proofs::Members::lies_at))]
 pub fn flow_lies(store: &[u8], rows: u8, n: u8, to: &[u8]) -> bool
     requires { Sized rows store.now }
     ensures { let bytes = store.now in result ≡ lies (store_program rows bytes) (store_flow bytes n) (set_of to.now) }
@@ -92,6 +101,7 @@ pub fn flow_lies(store: &[u8], rows: u8, n: u8, to: &[u8]) -> bool
 }
 
 // Whether the set of channel row c lies in a set.
+#[tactic(auto, using(crate::proofs::Members::lies_at))]
 pub fn comm_lies(store: &[u8], rows: u8, c: u8, to: &[u8]) -> bool
     requires { Sized rows store.now }
     ensures { let bytes = store.now in result ≡ lies (store_program rows bytes) (store_comm bytes c) (set_of to.now) }
@@ -101,6 +111,7 @@ pub fn comm_lies(store: &[u8], rows: u8, c: u8, to: &[u8]) -> bool
 }
 
 // Whether a set lies in the set of channel row c.
+#[tactic(auto, using(crate::proofs::Members::lies_at))]
 pub fn lies_in_comm(store: &[u8], rows: u8, from: &[u8], c: u8) -> bool
     requires { Sized rows store.now }
     ensures { let bytes = store.now in result ≡ lies (store_program rows bytes) (set_of from.now) (store_comm bytes c) }

@@ -1,4 +1,6 @@
 // The smallest tables of the program in a store: what the flow rules ask is added to empty sets until they hold.
+#![tactic(auto)]
+
 ghost use Rattle.std.specs.Prelude.{◌≤◌, length};
 ghost use Rattle.program.specs.Flow.{keeps_all};
 ghost use Rattle.calls.specs.Layout.{store_size};
@@ -31,6 +33,7 @@ fn round(store: &mut [u8], rows: u8, names: &[u8]) -> bool
 }
 
 // Rounds until one adds nothing. Each but the last adds a member, so the bytes that are 0 grow fewer.
+#[tactic(auto, using(spreading::proofs::Growing::program_reset, spreading::proofs::Growing::ready_reset, spreading::proofs::Growing::grows_by, spreading::proofs::Growing::rounds_fall, crate::proofs::Settling::spreads_none, crate::proofs::Settling::spreads_more, crate::proofs::Settling::settles))]
 fn settle(store: &mut [u8], rows: u8, names: &[u8])
     requires ready { Ready rows store.old }
     requires names { Names (store_program rows store.old) names.now }
@@ -55,6 +58,7 @@ fn clear_sets(store: &mut [u8])
 }
 
 // Rounds over the rows until the rules hold, if they do not.
+#[tactic(auto, using(crate::proofs::Settling::settled, crate::proofs::Settling::no_row_fails))]
 fn settle_rest(store: &mut [u8], rows: u8, names: &[u8])
     requires ready { Ready rows store.old }
     requires names { Names (store_program rows store.old) names.now }
@@ -66,6 +70,7 @@ fn settle_rest(store: &mut [u8], rows: u8, names: &[u8])
 }
 
 // Puts the smallest tables of a store's program in the place of its sets. What is spread is only what the rules ask, but need not be all of it.
+#[tactic(auto, using(spreading::proofs::Growing::program_reset, spreading::proofs::Growing::ready_reset, spreading::proofs::Growing::still_ready, crate::proofs::Settling::settles_grown, crate::proofs::Settling::least_left))]
 pub fn smallest_sets(store: &mut [u8], rows: u8)
     requires { Ready rows store.old }
     ensures { Least rows store.old store.new }

@@ -1,4 +1,6 @@
 // The sets and the claims of a store: whether each byte is one that a load could leave there, yes or no, without the line of a fault.
+#![tactic(auto)]
+
 ghost use Rattle.std.specs.Prelude.{◌≡◌, ◌&&◌, ◌+◌, ◌-◌, ◌≤◌, length, take, drop};
 ghost use Rattle.program.specs.Each.{collect};
 ghost use Rattle.program.specs.Program.{binders};
@@ -24,6 +26,7 @@ fn excess(byte: u8, limit: u8) -> u8
 }
 
 // Whether each byte of the set at a position is at most that of its member. Every byte is looked at, so that the loop takes many at a time.
+#[tactic(auto, using(crate::proofs::Bytes::within_goes, crate::proofs::Bytes::within_ends))]
 fn set_within(store: &[u8], at: usize, members: &[u8]) -> bool
     requires at_le_store_size { at ≤ store_size }
     requires member_limit_in_bounds { (at + member_limit ≤ length store.now) × (member_limit ≤ length members.now) }
@@ -56,6 +59,7 @@ fn next_key(keys: &[u8], n: usize) -> usize
 
 // Whether the sets that begin at base are sound: the set of a marked key has allowed members only, and any other is empty. The sets
 // between two marked keys are looked at as one part.
+#[tactic(auto, using(crate::proofs::Bytes::none_left, crate::proofs::Bytes::between_fails, crate::proofs::Bytes::between_ends, crate::proofs::Bytes::set_fails, crate::proofs::Bytes::set_passes))]
 fn sets_sound(store: &[u8], base: usize, keys: &[u8], members: &[u8]) -> bool
     requires base_le_comms_start { base ≤ comms_start }
     requires store_size_in_bounds { (store_size ≤ length store.now) × (row_limit ≤ length keys.now) × (member_limit ≤ length members.now) }
@@ -88,6 +92,7 @@ fn claim_limit(chan: u8) -> u8
 }
 
 // Whether each claim is on a chan row and has the code of a word. Every byte is looked at, so that the loop takes many at a time.
+#[tactic(auto, using(crate::proofs::Bytes::claims_go, crate::proofs::Bytes::claims_finish))]
 fn claims_within(store: &[u8], chans: &[u8]) -> bool
     requires { (store_size ≤ length store.now) × (row_limit ≤ length chans.now) }
     ensures { result ≡ claims_within chans.now 0 (take row_limit (drop claims_start store.now)) }

@@ -1,6 +1,8 @@
 // Sets filled by the rules, fast: each change is one that a rule asks, so that any order of the rows will do, and any row may be passed over.
 // What is passed over is told by marks, bytes of which nothing is proved.
-pub mod members; // members.rt: what the rule of a row asks of a member of its set
+#![tactic(auto)]
+
+pub mod visits; // visits.rt: what the rule of a row asks of a member of its set
 
 ghost use Rattle.std.specs.Prelude.{false};
 ghost use Rattle.store.specs.Rows.{store_program};
@@ -8,8 +10,8 @@ ghost use Rattle.asks.specs.Asks.{Names};
 ghost use Rattle.send_adds.specs.Sends.{Ready};
 ghost use Rattle.spreading.specs.Growing.{Grows};
 
-use members::visit;
 use set_adds::either;
+use visits::visit;
 
 // Adds what the rules ask, from the first row to the last.
 fn sweep_down(store: &mut [u8], rows: u8, names: &[u8], parts: &[u8], marks: &mut [u8]) -> bool

@@ -1,4 +1,6 @@
 // Single row steps, taken in a grid: one alone, those of a call, and those of a case's branches. Each tells if it altered the grid: 0 if not.
+#![tactic(auto)]
+
 ghost use Rattle.std.specs.Prelude.{◌≤◌, length};
 ghost use Rattle.format.specs.Limits.{row_limit};
 ghost use Rattle.grids.specs.Grid.{grid_size, step, Follows};
@@ -21,6 +23,7 @@ pub fn mark(grid: &mut [u8], rows: u8, a: u8, b: u8) -> u8
 }
 
 // Takes the steps of a call of row t from row q: to t, and from t's result row to q's rest.
+#[tactic(auto, using(grids::proofs::Stepping::follows_then), unfolding(crate::specs::Marks::call_steps))]
 pub fn mark_call(grid: &mut [u8], rows: u8, q: u8, rest: u8, t: u8, res: u8) -> u8
     requires { (rows ≤ row_limit) × (grid_size ≤ length grid.old) }
     ensures { Follows rows (call_steps q rest t res) grid.old grid.new result }
@@ -31,6 +34,7 @@ pub fn mark_call(grid: &mut [u8], rows: u8, q: u8, rest: u8, t: u8, res: u8) -> 
 }
 
 // Takes the steps into the branches of case row q: both are entered.
+#[tactic(auto, using(grids::proofs::Stepping::follows_then), unfolding(crate::specs::Marks::into_both))]
 pub fn mark_entering(grid: &mut [u8], rows: u8, q: u8, left: u8, right: u8) -> u8
     requires { (rows ≤ row_limit) × (grid_size ≤ length grid.old) }
     ensures { Follows rows (into_both q left right) grid.old grid.new result }
@@ -41,6 +45,7 @@ pub fn mark_entering(grid: &mut [u8], rows: u8, q: u8, left: u8, right: u8) -> u
 }
 
 // Takes the steps from the result rows of the branches to the rest.
+#[tactic(auto, using(grids::proofs::Stepping::follows_then), unfolding(crate::specs::Marks::from_both))]
 pub fn mark_returning(grid: &mut [u8], rows: u8, left_result: u8, right_result: u8, rest: u8) -> u8
     requires { (rows ≤ row_limit) × (grid_size ≤ length grid.old) }
     ensures { Follows rows (from_both rest left_result right_result) grid.old grid.new result }

@@ -41,8 +41,8 @@ elem_members zero i (b ∷ bs) =
 elem_members (suc m) i (b ∷ bs) =
     let q : suc m + i ≡ m + suc i = omega arith in
     either (eqb b 0)
-    (λ e. rw (e, members_from, q) (elem_members m (suc i) bs))
-    (λ e. rw (e, members_from, elem, ne_eqb (suc m + i) i (omega arith), q) (elem_members m (suc i) bs))
+    (λ e. rw (e, members_from) (rw (← q) at (elem_members m (suc i) bs)))
+    (λ e. rw (e, members_from, elem, ne_eqb (suc m + i) i (omega arith)) (rw (← q) at (elem_members m (suc i) bs)))
 
 -- the same of the first k bytes
 elem_taken : (k m : ℕ) (bs : Bytes) → elem m (members_from 0 (take k bs)) ≡ ltb 0 (pick (leb k m) 0 (get_or bs m 0))

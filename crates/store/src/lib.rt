@@ -1,4 +1,6 @@
 // The store of bytes that a file is loaded into: its layout, a new one, and the bytes of a row.
+#![tactic(auto)]
+
 ghost use Rattle.std.specs.Prelude.{◌≡◌, ◌≤◌, ◌++◌, length, drop, replicate};
 ghost use Rattle.calls.specs.Layout.{store_size};
 

@@ -1,4 +1,6 @@
 // A row of a store, read: eight bytes to a row, which are kind, name, rest and five arguments.
+#![tactic(auto)]
+
 ghost use Rattle.std.specs.Prelude.{◌≡◌};
 ghost use Rattle.format.specs.Forms.{form_with};
 ghost use Rattle.calls.specs.Layout.{row_of};
@@ -8,6 +10,7 @@ use program::{Bind, Form, Row};
 use store::{Cells, Store};
 
 // The bytes of row r; past the store's end they are 0.
+#[tactic(auto, unfolding(store::specs::Rows::cells_at))]
 fn cells_at(store: &[u8], r: u8) -> Cells
     ensures { result ≡ cells_at store.now r }
 {
@@ -66,6 +69,7 @@ pub fn form_of(kind: u8, a: u8, b: u8, c: u8, d: u8, e: u8) -> Form
 }
 
 // The row of its bytes. Kind 1 is a result.
+#[tactic(auto, unfolding(calls::specs::Layout::row_of, format::specs::Forms::form_of))]
 fn row_of(x: Cells) -> Row
     ensures { result ≡ row_of (bytes_of x) }
 {
@@ -81,6 +85,7 @@ fn row_of(x: Cells) -> Row
 }
 
 // Row r. A kind above 15, and 0, which is no row, reads as an apply.
+#[inline(always)]
 pub fn row_at(store: &[u8], r: u8) -> Row
     ensures { result ≡ store_row store.now r }
 {

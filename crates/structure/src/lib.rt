@@ -1,4 +1,6 @@
 // The structure of a program in a store: the rows that its rows point at, the names that they bind, and what its sets and claims may name.
+#![tactic(auto)]
+
 ghost use Rattle.std.specs.Prelude.{◌≡◌, [], ◌≤◌, length};
 ghost use Rattle.program.specs.Each.{collect};
 ghost use Rattle.program.specs.Program.{binders};
@@ -33,6 +35,7 @@ fn at_row(reason: Reason, r: u8) -> Structure
 }
 
 // The first refusal of 6, 7 and 8 of a store with this many rows. Where there is none, the names that the rows bind are then marked.
+#[tactic(auto, using(crate::proofs::Refusing::pointer_refused, crate::proofs::Refusing::binder_refused, crate::proofs::Refusing::scope_refused, crate::proofs::Refusing::tree_sound, crate::proofs::Refusing::refused_sound))]
 pub fn tree_fault(store: &[u8], rows: u8, names: &mut [u8; NUMBERS]) -> Structure
     requires rows_le_row_limit { rows ≤ row_limit }
     requires marks { Marks [] names.old }
@@ -55,6 +58,7 @@ pub fn tree_fault(store: &[u8], rows: u8, names: &mut [u8; NUMBERS]) -> Structur
 }
 
 // The first refusal of 6, 7, 8 and 9 of a store with this many rows. The sets go line by line only where a line may be wrong.
+#[tactic(auto, using(crate::proofs::Refusing::tree_refused, crate::proofs::Refusing::lines_pass, crate::proofs::Refusing::line_refused, crate::proofs::Refusing::none_refused))]
 pub fn structure_fault(store: &[u8], rows: u8) -> Structure
     requires rows_le_row_limit { rows ≤ row_limit }
     requires store_size_in_bounds { store_size ≤ length store.now }

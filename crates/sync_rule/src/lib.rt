@@ -1,4 +1,6 @@
 // The flow rule of a sync over the sets of a store: what it asks of the send rows and of the recv rows in the set of its event.
+#![tactic(auto)]
+
 ghost use Rattle.std.specs.Prelude.{true, false, ◌≡◌};
 ghost use Rattle.program.specs.Flow.{for_each};
 ghost use Rattle.store.specs.Rows.{store_program};
@@ -25,6 +27,7 @@ fn sends_pass(store: &[u8], rows: u8, e: u8, given: bool, with: &[u8], without: 
 }
 
 // Whether each row in the set of name e passes a sync whose bind has the name n: its send rows, and then all that it may receive at once.
+#[tactic(auto, using(crate::proofs::Syncs::sync_recvs, crate::proofs::Syncs::sync_fails, crate::proofs::Syncs::all_received))]
 pub fn keeps_sync(store: &[u8], rows: u8, n: u8, e: u8, with: &[u8], without: &[u8]) -> bool
     requires sized { Sized rows store.now }
     requires sends { Sends rows store.now true with.now }

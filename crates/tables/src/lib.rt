@@ -1,4 +1,6 @@
 // The sets of a store: whether a member is in the set of a name or of a channel row.
+#![tactic(auto)]
+
 ghost use Rattle.std.specs.Prelude.{◌≡◌};
 ghost use Rattle.program.specs.Flow.{row};
 ghost use Rattle.tables.specs.Tables.{flow_flag, comm_flag, store_flow};
@@ -6,6 +8,7 @@ ghost use Rattle.tables.specs.Tables.{flow_flag, comm_flag, store_flow};
 use store::Store;
 
 // The byte of a member in the set of name n: 1 or 0 in a sound store; 0 where there is no such name or member.
+#[tactic(auto, unfolding(crate::specs::Tables::flag_at, crate::specs::Tables::flow_flag))]
 pub fn flow_flag(store: &[u8], n: u8, member: u8) -> u8
     ensures { result ≡ flow_flag store.now n member }
 {
@@ -21,6 +24,7 @@ pub fn flow_flag(store: &[u8], n: u8, member: u8) -> u8
 }
 
 // The same of the set of channel row c.
+#[tactic(auto, unfolding(crate::specs::Tables::flag_at, crate::specs::Tables::comm_flag))]
 pub fn comm_flag(store: &[u8], c: u8, member: u8) -> u8
     ensures { result ≡ comm_flag store.now c member }
 {

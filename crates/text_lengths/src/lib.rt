@@ -1,4 +1,6 @@
 // How long the text of the document in the bytes of a store is, as a sum of the lengths of its lines.
+#![tactic(auto)]
+
 ghost use Rattle.std.specs.Prelude.{◌≡◌, length};
 ghost use Rattle.format.specs.Print.{document_text};
 ghost use Rattle.calls.specs.Layout.{store_size};

@@ -1,4 +1,6 @@
 // What a thread's own move does: the rule of the row where it stands. `specs/Machine` of crate machine says it.
+#![tactic(auto)]
+
 ghost use Rattle.std.specs.Prelude.{◌≡◌};
 ghost use Rattle.std.proofs.Math.Option.{some};
 ghost use Rattle.program.specs.declared.Form.{Form};
@@ -26,6 +28,7 @@ pub enum ThreadChange {
 }
 
 // On to the rest, where the bind's name has a value.
+#[tactic(auto, using(crate::proofs::Rules::goes_on))]
 pub fn go_on(run: &[u8], t: ThreadRecord, b: Bind, kept: Kept) -> ThreadChange
     requires { InLimits run.now }
     ensures { change_in result ≡ some (go_on (memory_in run.now) t b kept) }
@@ -46,6 +49,7 @@ pub fn go_on(run: &[u8], t: ThreadRecord, b: Bind, kept: Kept) -> ThreadChange
 }
 
 // The same, and a new thread, with its parent's environment and no waiting return.
+#[tactic(auto, using(crate::proofs::Rules::forks))]
 fn fork(run: &[u8], t: ThreadRecord, b: Bind, child: u8) -> ThreadChange
     requires { InLimits run.now }
     ensures { change_in result ≡ some (fork (memory_in run.now) t b child) }
@@ -83,6 +87,7 @@ fn return_of(t: ThreadRecord, b: Bind) -> Frame
 }
 
 // Into a branch, where a name has the value that another has from a cell on.
+#[tactic(auto, using(crate::proofs::Rules::newest_next))]
 fn enter(
     run: &[u8],
     t: ThreadRecord,
@@ -197,6 +202,7 @@ fn case_change(
 }
 
 // Apply: into the body, in the fun value's environment.
+#[tactic(auto, using(crate::proofs::Rules::newest_next))]
 fn apply_change(
     store: &[u8],
     rows: u8,
@@ -253,6 +259,7 @@ fn value_change(run: &[u8], t: ThreadRecord, b: Bind) -> ThreadChange
 }
 
 // A bind: the rule of its form. At a sync no thread moves alone.
+#[tactic(auto, using(crate::proofs::Rules::by_form), unfolding(machine::specs::Machine::form_change))]
 fn form_change(store: &[u8], rows: u8, run: &[u8], t: ThreadRecord, b: Bind) -> ThreadChange
     requires { InLimits run.now }
     ensures { change_in result ≡ form_change (store_program rows store.now) (memory_in run.now) t b b.form }
@@ -287,6 +294,7 @@ fn form_change(store: &[u8], rows: u8, run: &[u8], t: ThreadRecord, b: Bind) -> 
 }
 
 // A result: the last pushed return that waits.
+#[tactic(auto, using(crate::proofs::Rules::newest_next))]
 fn result_change(run: &[u8], t: ThreadRecord, name: u8) -> ThreadChange
     requires { InLimits run.now }
     ensures { change_in result ≡ result_change (memory_in run.now) t name }
@@ -313,6 +321,7 @@ fn result_change(run: &[u8], t: ThreadRecord, name: u8) -> ThreadChange
 }
 
 // What a thread's own move does.
+#[tactic(auto, using(crate::proofs::Rules::by_result, crate::proofs::Rules::by_bind))]
 pub fn change(store: &[u8], rows: u8, run: &[u8], t: ThreadRecord) -> ThreadChange
     requires { InLimits run.now }
     ensures { change_in result ≡ change (store_program rows store.now) (memory_in run.now) t }

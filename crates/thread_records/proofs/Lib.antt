@@ -1,5 +1,2 @@
--- What the walks of this crate share.
-pub mod Walk
-pub mod Told
+-- What each turn of the loops keeps.
 pub mod Turns
-pub mod Callees

@@ -1,4 +1,6 @@
 // Thread records in a lent list: those that may be in use taken out of it by value, and put back. Every other function has the records by value.
+#![tactic(auto)]
+
 ghost use Rattle.std.specs.Prelude.{◌≡◌, ◌<◌, min, get_or, set};
 ghost use Rattle.machine.specs.Machine.{thread_limit};
 ghost use Rattle.thread_records.specs.Records.{no_record, no_records, with_record, records_in, put_records};
@@ -7,7 +9,7 @@ use machine::ThreadRecord;
 use run_memory::Run;
 
 // The records that may be in use, the first of those lent, and how many are lent.
-#[derive(Drop)]
+#[derive(Clone, Copy)]
 pub struct Records {
     pub lent: usize,
     pub list: [ThreadRecord; Run::THREADS as usize],

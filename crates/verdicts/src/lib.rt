@@ -1,4 +1,6 @@
 // The words of a channel: which of the topologies hold of it, told by a grid of which rows reach which.
+#![tactic(auto)]
+
 ghost use Rattle.std.specs.Prelude.{map, ◌≡◌, ◌≤◌, length};
 ghost use Rattle.program.specs.Verdict.{reach, says};
 ghost use Rattle.format.specs.Limits.{row_limit};
@@ -55,6 +57,7 @@ fn nothing_found() -> Facts
 }
 
 // The same of marked send places and marked receive places.
+#[tactic(auto, unfolding(program::specs::Verdict::facts))]
 fn facts(
     store: &[u8],
     rows: u8,
@@ -99,6 +102,7 @@ fn channel_facts(
 }
 
 // Whether a word holds of channel row c: `comes` marks the rows that walks come to, the others are the lists of the rows of their kinds.
+#[tactic(auto, using(crate::proofs::Wording::word_is))]
 pub fn word_holds(
     store: &[u8],
     rows: u8,
@@ -135,6 +139,7 @@ fn own_facts(store: &[u8], rows: u8, grid: &[u8], c: u8) -> Facts
 }
 
 // What is found at the ends of channel row c, with marks and lists of its own, and a grid only where the channel has a place.
+#[tactic(auto, using(crate::proofs::Wording::no_places))]
 fn lone_facts(store: &[u8], rows: u8, c: u8) -> Facts
     requires { rows ≤ row_limit }
     ensures { result ≡ facts_in (store_program rows store.now) (store_flow store.now) c }
@@ -169,6 +174,7 @@ fn five(found: Facts) -> [bool; 5]
 }
 
 // The five words of channel row c, told by a grid.
+#[tactic(auto, using(crate::proofs::Wording::words_are))]
 pub fn words(store: &[u8], rows: u8, grid: &[u8], c: u8) -> [bool; 5]
     requires rows_le_row_limit { (rows ≤ row_limit) × (grid_size ≤ length grid.now) }
     requires shows { Shows (reach (store_program rows store.now) (store_flow store.now)) grid.now }
@@ -178,6 +184,7 @@ pub fn words(store: &[u8], rows: u8, grid: &[u8], c: u8) -> [bool; 5]
 }
 
 // The five words of channel row c, with a grid of its own where the channel has a place.
+#[tactic(auto, using(crate::proofs::Wording::words_are))]
 pub fn lone_words(store: &[u8], rows: u8, c: u8) -> [bool; 5]
     requires { rows ≤ row_limit }
     ensures { result ≡ map (word_in (store_program rows store.now) (store_flow store.now) c) verdict_words }

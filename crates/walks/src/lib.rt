@@ -1,4 +1,6 @@
 // What walks come to, told by a grid of which rows reach which.
+#![tactic(auto)]
+
 ghost use Rattle.std.specs.Prelude.{◌≡◌, ◌+◌, ◌≤◌, length};
 ghost use Rattle.format.specs.Limits.{row_limit};
 ghost use Rattle.store.specs.Rows.{store_program};
@@ -13,6 +15,7 @@ use program::{Form, Row};
 use store::Store;
 
 // The rows that a walk comes to: row 0, and what it reaches.
+#[tactic(auto, unfolding(row_marks::specs::RowMarks::on))]
 pub fn reached_rows(grid: &[u8], rows: u8) -> [u8; Store::ROWS]
     requires { (rows ≤ row_limit) × (grid_size ≤ length grid.now) }
     ensures { Marked rows (comes_to grid.now) result }
@@ -62,6 +65,7 @@ pub fn rows_ahead(grid: &[u8], rows: u8, places: &[u8]) -> [u8; Store::ROWS]
 }
 
 // Whether row r is a place or has one ahead.
+#[tactic(auto, unfolding(crate::specs::Walks::leads_on, row_marks::specs::RowMarks::on))]
 fn leads(rows: u8, places: &[u8], ahead: &[u8], r: u8) -> bool
     ensures { result ≡ leads_on rows places.now ahead.now r }
 {

@@ -1,4 +1,6 @@
 // A byte, and the bytes of a word, written into a slice at a position.
+#![tactic(auto)]
+
 ghost use Rattle.std.specs.Prelude.{[], ◌∷◌};
 ghost use Rattle.write_bytes.specs.Write.{Room, Wrote};
 

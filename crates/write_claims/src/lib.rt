@@ -1,4 +1,6 @@
 // Claim lines, written at a position.
+#![tactic(auto)]
+
 ghost use Rattle.std.specs.Prelude.{[], ◌∷◌, map, ◌≤◌, length};
 ghost use Rattle.program.specs.Each.{collect};
 ghost use Rattle.format.specs.Text.{ascii};

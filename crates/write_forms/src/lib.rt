@@ -1,4 +1,6 @@
 // Forms, written into a slice at a position by their kind and their numbers.
+#![tactic(auto)]
+
 ghost use Rattle.std.specs.Prelude.{◌≡◌, ◌≤◌, ◌-◌, length, take, drop};
 ghost use Rattle.format.specs.Text.{arguments};
 ghost use Rattle.format.specs.Forms.{form_of};
@@ -33,6 +35,7 @@ fn put_part(out: &mut [u8], at: usize, text: &[u8], from: usize, to: usize) -> u
 }
 
 // Writes the word of a kind, with the bracket before it.
+#[tactic(auto, unfolding(format::specs::Text::ascii))]
 fn put_kind(out: &mut [u8], at: usize, kind: u8) -> usize
     requires { Room out.old at (kind_word kind) }
     ensures { Wrote out.old at (kind_word kind) result out.new }
@@ -51,6 +54,7 @@ fn put_kind(out: &mut [u8], at: usize, kind: u8) -> usize
 }
 
 // Writes the form of a kind and five numbers, of which it holds the first.
+#[tactic(auto, unfolding(format::specs::Text::ascii))]
 pub fn put_form(out: &mut [u8], at: usize, kind: u8, numbers: &[u8]) -> usize
     requires numbers_len { length numbers.now ≡ 5 }
     requires room { Room out.old at (form_text (form_of kind numbers.now)) }

@@ -1,4 +1,6 @@
 // A set, written at a position. It has a byte for each member, which is not 0 where the member is in the set: unit is member 0, and row r is r + 1.
+#![tactic(auto)]
+
 ghost use Rattle.std.proofs.Math.Bool.{So};
 ghost use Rattle.std.specs.Prelude.{◌≡◌, ◌<◌, ◌≤◌, length};
 ghost use Rattle.format.specs.Text.{byte_at};
@@ -11,6 +13,7 @@ ghost use Rattle.write_members.specs.Passing.{Passes};
 use set_counts::has_member;
 
 // Writes a member: `u`, or the row's number.
+#[tactic(auto, unfolding(format::specs::Print::member_text, format::specs::Text::ascii))]
 fn put_member(out: &mut [u8], at: usize, m: usize) -> usize
     requires m_bound { m ≤ 65536 }
     requires room { Room out.old at (member_text m) }

@@ -1,4 +1,6 @@
 // Numbers of the text form, written into a slice at a position. Their digits are counted off by subtraction; nothing is divided.
+#![tactic(auto)]
+
 ghost use Rattle.std.specs.Prelude.{◌≡◌, ◌*◌, ◌%◌, ◌<◌, ◌≤◌};
 ghost use Rattle.format.specs.Text.{place, digits};
 ghost use Rattle.write_bytes.specs.Write.{Room, Wrote};

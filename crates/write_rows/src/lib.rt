@@ -1,5 +1,7 @@
 // Rows and their lines, written into a slice at a position.
 // A row is read as it stands in the store: its kind, its name, its rest and five numbers.
+#![tactic(auto)]
+
 ghost use Rattle.std.specs.Prelude.{◌≡◌, ◌≤◌, length};
 ghost use Rattle.program.specs.Each.{collect};
 ghost use Rattle.format.specs.Print.{row_text, line_text, row_lines};

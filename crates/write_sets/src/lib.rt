@@ -1,4 +1,6 @@
 // The lines of sets, written at a position. A set has a byte for each member, which is not 0 where the member is in the set. The count of the lines is passed on.
+#![tactic(auto)]
+
 ghost use Rattle.std.specs.Prelude.{[], ◌≤◌, length};
 ghost use Rattle.program.specs.Each.{collect};
 ghost use Rattle.format.specs.Limits.{row_limit};

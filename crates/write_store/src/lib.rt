@@ -1,4 +1,6 @@
 // The text of the document in the bytes of a store, written into a slice that has room for it.
+#![tactic(auto)]
+
 ghost use Rattle.std.specs.Prelude.{◌≡◌, length};
 ghost use Rattle.format.specs.Print.{document_text};
 ghost use Rattle.calls.specs.Layout.{store_size};

@@ -1,4 +1,6 @@
 // The text of the document in the store at the head of a slice, written into another, and its length.
+#![tactic(auto)]
+
 ghost use Rattle.std.specs.Prelude.{◌≡◌, ◌≤◌, length, take};
 ghost use Rattle.format.specs.Print.{document_text};
 ghost use Rattle.calls.specs.Layout.{store_size};

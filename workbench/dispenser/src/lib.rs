@@ -35,8 +35,8 @@
 //!
 //! Any file, number and bytes may be given to any call: it answers, or tells why not
 //! by a [`Refusal`]. The library has no globals, so stores and runs may be used from
-//! several threads at once. It is linked from `target/staticlib` at the repository's
-//! root, where `rt staticlib dispenser_c` writes it.
+//! several threads at once. It is linked from the repository's folder
+//! `crates/dispenser_c/out`, where `rt lib` in `crates/dispenser_c` writes it.
 
 #![deny(missing_docs)]
 #![deny(unsafe_code)]

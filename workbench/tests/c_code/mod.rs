@@ -47,7 +47,7 @@ pub fn compile(compiler: &str, words: &[&str], files: &[&Path]) {
 /// Compiles a program of `tests/c` and links the library to it.
 pub fn program(name: &str) -> PathBuf {
     let source = Path::new(env!("CARGO_MANIFEST_DIR")).join(format!("tests/c/{name}.c"));
-    let library = of_repository("target/staticlib/libdispenser_c.a");
+    let library = of_repository("crates/dispenser_c/out/libdispenser_c.a");
     let program = made(name);
     let words = ["-O2", "-o", program.to_str().unwrap()];
     compile("gcc", &words, &[&source, &library]);

@@ -48,7 +48,7 @@ flag_again i (b ∷ fs) (l & h) zero =
 flag_again i (b ∷ fs) (l & h) (suc j) =
     either (eqb b 0)
     (λ e. rw (e, members_from, add-suc, ← suc-add) (flag_again (suc i) fs h j))
-    (λ e. rw (e, members_from, ne_eqb (i + suc j) i (omega arith), add-suc, ← suc-add) (flag_again (suc i) fs h j))
+    (λ e. let next : i + suc j ≡ suc i + j = omega arith in rw (e, members_from, ne_eqb (i + suc j) i (omega arith)) (rw (← next) at (flag_again (suc i) fs h j)))
 
 flags_again : (fs : Bytes) → length fs ≡ member_limit → Each (λ b. b < 2) fs → flags_of (members_from 0 fs) ≡ fs
 unfolding flags_of

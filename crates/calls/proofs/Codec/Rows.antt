@@ -9,7 +9,6 @@ use lib.Seq.{take_at, drop_at}
 use lib.Dec.{ltb, eqb, lit<}
 use borrow.Author.Tests.{ltb-true, ne_eqb}
 use Rattle.program.specs.declared.Row.{Row}
-use Rattle.program.specs.declared.Bind.{Bind}
 use Rattle.program.specs.declared.Form.{Form}
 use Rattle.program.specs.declared.Form.TheVariants.{Chan, Send, Recv, Pair, Left, Right, Fun, Spawn, Sync, First, Second, Case, Apply}
 use Rattle.program.specs.Each.{here, collect, Each, nil, ◌&◌}

@@ -8,11 +8,10 @@ use lib.ListN.{length}
 use lib.Dec.{eqb}
 use borrow.Author.Tests.{eqb-true}
 use Rattle.program.specs.Flow.{Table}
-use Rattle.program.specs.Maybe.{◌>>=◌}
 use Rattle.program.specs.Program.{Program, bind_at, fork_at, spawn_of}
 use Rattle.program.specs.Snoc.{ε, ◌▷◌, Begins}
 use Rattle.program.specs.Test.{any}
-use Rattle.program.specs.Verdict.{reach, reached, leads}
+use Rattle.program.specs.Verdict.{reached, leads}
 use Rattle.program.specs.Walk.{Walk, last_row, IsWalk, EndsAt}
 use Rattle.program.proofs.Decides.Reach.{Reaches, walk_on, walk_between}
 use Rattle.program.proofs.Decides.Targets.{edge_bound}

@@ -5,7 +5,7 @@ use mathlib.Core.Option.{Option, none, some}
 use mathlib.Core.Path.{◌≡◌, refl, sym, ◌∙◌, ap}
 use Rattle.program.specs.declared.Bind.{Bind}
 use Rattle.program.specs.Each.{Member, Each, nil, ◌&◌}
-use Rattle.program.specs.Maybe.{◌>>=◌, given, provided}
+use Rattle.program.specs.Maybe.{given, provided}
 use Rattle.program.specs.Program.{Program, bind_at}
 use Rattle.program.specs.Run.{Path, same_label, Instance, same_instance, State, Move, Thread, Pool, next, Value, unit, empty, proceed, moves, offer, receives_on}
 use Rattle.program.specs.Run.{state_of, leaf, leaf_state, lengthen, Step, own, meet, added, step, after, start_pool, run}

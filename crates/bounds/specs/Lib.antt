@@ -1,0 +1,2 @@
+-- The last line that an answer can name.
+pub mod LastLine

@@ -1,0 +1,17 @@
+-- `judge` meets its contract: 20 to 22 of the store, then what its document gives.
+use mathlib.Core.Path.{sym}
+use Rattle.opening.proofs.Opening.{fixed_size, counted, as_it_was}
+use Rattle.call_judge.proofs.Judges.{judge_closed, judge-opened}
+use Rattle.call_judge.proofs.judge.Goals as goal
+
+pub slice_bounds-judge_rows-end : goal.slice_bounds-judge_rows-end
+slice_bounds-judge_rows-end c = sym (fixed_size _ _ c.in-Rows.ensures)
+
+pub judge_rows-requires : goal.judge_rows-requires
+judge_rows-requires c = record { store_len = fixed_size _ _ c.in-Rows.ensures; rows_value = counted _ _ c.in-Rows.ensures }
+
+pub returns-in-Refused : goal.returns-in-Refused
+returns-in-Refused c = as_it_was (judge_closed _ c.in-Refused.ensures)
+
+pub returns-in-Rows : goal.returns-in-Rows
+returns-in-Rows c = as_it_was (judge-opened _ _ c.in-Rows.ensures c.judge_rows.ensures)

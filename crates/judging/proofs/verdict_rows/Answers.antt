@@ -1,0 +1,19 @@
+-- `verdict_rows` meets its contract: 24, then 10, then the words.
+use mathlib.Core.Path.{sym, ◌∙◌}
+use Rattle.forms.proofs.Forms.{chan_past}
+use Rattle.judging.proofs.Documents.{no_channel, verdict_refused, verdict_goes}
+use Rattle.judging.proofs.verdict_rows.Goals as goal
+
+pub returns-then-rows-channel : goal.returns-then-rows-channel
+returns-then-rows-channel c = rw c.not_a_channel.ensures (no_channel _ _ c.requires.rows_value _ (chan_past _ _ _ c.if-rows-channel.true))
+
+pub returns-then-failing-rows : goal.returns-then-failing-rows
+returns-then-failing-rows c =
+    rw (c.no_verdict.ensures, c.flow_refusal.ensures)
+    (verdict_refused _ _ c.requires.rows_value _ (sym c.is_chan.ensures ∙ c.if-is_chan.true) c.failing_row-failing.ensures
+    c.if-failing-rows.true)
+
+pub returns-then-is_chan : goal.returns-then-is_chan
+returns-then-is_chan c =
+    verdict_goes _ _ c.requires.rows_value _ (sym c.is_chan.ensures ∙ c.if-is_chan.true) c.failing_row-failing.ensures c.if-failing-rows.false
+    c.lone_words.ensures

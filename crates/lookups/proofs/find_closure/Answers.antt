@@ -1,0 +1,20 @@
+-- What is found is a closure or not.
+use Rattle.program.specs.Maybe.{◌>>=◌}
+use Rattle.machine.specs.Machine.{closure_held_by, find_closure}
+use Rattle.lookups.proofs.find_closure.Goals as goal
+
+pub returns-in-Nothing : goal.returns-in-Nothing
+unfolding find_closure ◌>>=◌
+returns-in-Nothing c = rw (← c.find.ensures, c.in-Nothing.is)
+
+pub returns-in-Unit : goal.returns-in-Unit
+unfolding find_closure closure_held_by ◌>>=◌
+returns-in-Unit c = rw (← c.find.ensures, c.in-Value.is, c.in-Unit.is)
+
+pub returns-in-Channel : goal.returns-in-Channel
+unfolding find_closure closure_held_by ◌>>=◌
+returns-in-Channel c = rw (← c.find.ensures, c.in-Value.is, c.in-Channel.is)
+
+pub returns-in-Closure : goal.returns-in-Closure
+unfolding find_closure closure_held_by ◌>>=◌
+returns-in-Closure c = rw (← c.find.ensures, c.in-Value.is, c.in-Closure.is)

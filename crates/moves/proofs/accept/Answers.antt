@@ -1,0 +1,9 @@
+-- `accept` meets its contract: it answers the count in run memory.
+use mathlib.Core.Path.{ap}
+use Rattle.run_memory.specs.declared.InUse.{InUse}
+use Rattle.run_calls.specs.declared.RunAnswer.{RunAnswer}
+use Rattle.moves.specs.Moves.{moved_of}
+use Rattle.moves.proofs.accept.Goals as goal
+
+pub returns : goal.returns
+returns c = ap (λ (n : InUse). moved_of (RunAnswer.Threads n.threads) c.args.records) c.in_use-n.ensures

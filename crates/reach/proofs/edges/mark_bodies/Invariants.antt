@@ -1,0 +1,16 @@
+-- The loop's invariant: the steps of the calls of the rows below k are taken. The measure is what is left of the rows.
+use Prim.Native.Nat.{◌≤◌, ◌-◌}
+use mathlib.Core.Path.{◌≡◌}
+use lib.ListN.{length}
+use Rattle.store.specs.Rows.{store_program}
+use Rattle.tables.specs.Tables.{store_flow}
+use Rattle.reach.specs.Edges.{any_body}
+use Rattle.grids.specs.Grid.{Follows}
+use Rattle.reach.proofs.edges.mark_bodies.Given as goal
+
+abbrev pub invariant-loop-k : goal.invariant-loop-k
+invariant-loop-k l =
+    (l.k ≤ l.rows) × ((length l.grid ≡ length l.initial.grid) × Follows l.rows (any_body (store_program l.rows l.store) (store_flow l.store) l.q l.rest l.f l.k) l.initial.grid l.grid l.changed)
+
+abbrev pub decreases-loop-k : goal.decreases-loop-k
+decreases-loop-k l = l.rows - l.k

@@ -1,0 +1,9 @@
+-- The bracket, the first member and the rest, by the laws of `Members`.
+use Rattle.program.specs.Maybe.{◌>>=◌}
+use Rattle.format.specs.Read.{read_set}
+use Rattle.format.specs.Text.{ascii}
+use Rattle.read_sets.proofs.read_set.Goals as goal
+
+pub returns-in_default : goal.returns-in_default
+unfolding read_set ascii ◌>>=◌
+returns-in_default c = rw (← c.expect.ensures, c.in_default.is)
