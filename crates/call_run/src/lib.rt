@@ -65,7 +65,7 @@ pub fn begin_run(store: &[u8], run: &mut [u8], records: Records) -> Moved
 fn move_rows(store: &[u8], rows: u8, run: &mut [u8], records: Records, thread: usize) -> Moved
     requires lends { Lends run.old records.list }
     requires in_limits { InLimits run.old }
-    ensures { (let run = run.entry.now in let ts = records.list in LeavesRun (made run ts (changes (store_program rows store.now) (machine_in run ts) (alone thread)))) result.answer run.exit.now result.records.list }
+    ensures { (let run = run.old in let ts = records.list in LeavesRun (made run ts (changes (store_program rows store.now) (machine_in run ts) (alone thread)))) result.answer run.new result.records.list }
 {
     let n = in_use(run);
     let used = n.threads as usize;
@@ -88,7 +88,7 @@ fn meet_rows(
 ) -> Moved
     requires lends { Lends run.old records.list }
     requires in_limits { InLimits run.old }
-    ensures { (let run = run.entry.now in let ts = records.list in LeavesRun (made run ts (changes (store_program rows store.now) (machine_in run ts) (together sender receiver)))) result.answer run.exit.now result.records.list }
+    ensures { (let run = run.old in let ts = records.list in LeavesRun (made run ts (changes (store_program rows store.now) (machine_in run ts) (together sender receiver)))) result.answer run.new result.records.list }
 {
     let n = in_use(run);
     let used = n.threads as usize;
