@@ -9,7 +9,7 @@ use store::Store;
 
 // Judges a store: the count of its claims, all of which hold, or refusals 20 to 22, 10 and 11.
 pub fn judge(store: &[u8]) -> JudgeAnswer
-    ensures { Leaves (unaltered (judge store.now) store.now) result store.now }
+    ensures { Leaves (unaltered (judge store.entry.now) store.entry.now) result store.exit.now }
 {
     match opening::open(store) {
         Opened::Refused(refusal) => JudgeAnswer::Refused(refusal),

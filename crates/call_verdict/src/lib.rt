@@ -9,7 +9,7 @@ use store::Store;
 
 // The verdict of a channel: its five words, or refusals 20 to 22, 24 and 10.
 pub fn verdict(store: &[u8], channel: usize) -> VerdictAnswer
-    ensures { Leaves (unaltered (verdict store.now channel) store.now) result store.now }
+    ensures { Leaves (unaltered (verdict store.entry.now channel) store.entry.now) result store.exit.now }
 {
     match opening::open(store) {
         Opened::Refused(refusal) => judge_answers::no_verdict(refusal),

@@ -38,7 +38,7 @@ pub extern "C" fn dispenser_load(file: &[u8], store: &mut [u8]) -> u64
 #[unsafe(no_mangle)]
 pub extern "C" fn dispenser_judge(store: &[u8]) -> u64
     ensures value { result ≡ packed number_bits (judge_answer (judge store.now)) }
-    ensures store_value { store.now ≡ store.now }
+    ensures store_after { store.exit.now ≡ store.entry.now }
 {
     packed_judge::judge(store)
 }
@@ -47,7 +47,7 @@ pub extern "C" fn dispenser_judge(store: &[u8]) -> u64
 #[unsafe(no_mangle)]
 pub extern "C" fn dispenser_verdict(store: &[u8], channel: usize) -> u64
     ensures value { result ≡ packed word_bits (verdict_answer (verdict store.now channel)) }
-    ensures store_value { store.now ≡ store.now }
+    ensures store_after { store.exit.now ≡ store.entry.now }
 {
     packed_verdict::verdict(store, channel)
 }

@@ -10,7 +10,7 @@ ghost use Rattle.packing.specs.Packing.{packed, number_bits};
 #[tactic(auto, using(lossless::proofs::Lossless::judge_lossless))]
 pub fn judge(store: &[u8]) -> u64
     ensures value { result ≡ packed number_bits (judge_answer (judge store.now)) }
-    ensures store_value { store.now ≡ store.now }
+    ensures store_after { store.exit.now ≡ store.entry.now }
 {
     let answer = call_judge::judge(store);
     packing::pack_judge(answer)

@@ -10,7 +10,7 @@ ghost use Rattle.packing.specs.Packing.{packed, word_bits};
 #[tactic(auto, using(lossless::proofs::Lossless::verdict_lossless, bounds::proofs::Bounds::every_word))]
 pub fn verdict(store: &[u8], channel: usize) -> u64
     ensures value { result ≡ packed word_bits (verdict_answer (verdict store.now channel)) }
-    ensures store_value { store.now ≡ store.now }
+    ensures store_after { store.exit.now ≡ store.entry.now }
 {
     let answer = call_verdict::verdict(store, channel);
     pack_words::pack_verdict(answer)
