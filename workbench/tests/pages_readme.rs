@@ -42,7 +42,7 @@ fn the_first_thirty_lines_build_run_and_explain() {
     };
     // The last line that belongs to them closes the third block.
     assert!(explained.line + explained.text.lines().count() <= 30);
-    assert_eq!(command(build).0, "cd crates/dispenser && rt run < stdin");
+    assert_eq!(command(build).0, "(cd crates/dispenser && rt run < stdin)");
     let (run, printed) = command(program);
     assert_eq!(run, "crates/dispenser/out/dispenser < examples/a.txt");
     assert_eq!(printed, read("crates/dispenser/stdout"));
