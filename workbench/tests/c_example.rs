@@ -128,6 +128,7 @@ fn make_says_what_is_missing() {
         assert!(!output.status.success(), "{goal}");
         let told = String::from_utf8(output.stderr).unwrap();
         assert!(told.contains("run 'rt lib' in the"), "{told}");
+        assert!(told.contains("crates/dispenser_c"), "{told}");
     }
     let output = make(&["install", "PREFIX=here"]);
     assert!(!output.status.success());
