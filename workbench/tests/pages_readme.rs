@@ -53,7 +53,7 @@ fn the_first_thirty_lines_build_run_and_explain() {
     assert!(command(explained).0.starts_with("channel-check check "));
     let page = page();
     let start: Vec<&str> = page.lines().take(30).collect();
-    assert!(start.join("\n").contains("`rt try dispenser`"));
+    assert!(start.join("\n").contains("`rt try dispenser < stdin`"));
 }
 
 #[test]
