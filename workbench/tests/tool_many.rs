@@ -102,6 +102,8 @@ d/link.txt: accepted, 1 claim holds
     // A link that is named itself is.
     let output = folder.run(&["check", "named"]);
     assert!(text(&output.stdout).starts_with("named/inner/a.txt: accepted"));
+    // The gate's next run here would be refused: `rt ci` takes no link in a checkout.
+    fs::remove_dir_all(&folder.path).unwrap();
 }
 
 #[test]
