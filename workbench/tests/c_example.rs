@@ -160,7 +160,10 @@ fn what_is_installed_compiles_by_its_pkg_config_file() {
     made_well(&["install", &place]);
     for (installed, of) in [
         ("include/dispenser.h", "include/dispenser.h"),
-        ("lib/libdispenser_c.a", "crates/dispenser_c/out/libdispenser_c.a"),
+        (
+            "lib/libdispenser_c.a",
+            "crates/dispenser_c/out/libdispenser_c.a",
+        ),
     ] {
         let [installed, of] = [prefix.join(installed), of_repository(of)];
         assert_eq!(
