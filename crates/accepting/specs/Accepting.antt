@@ -1,7 +1,7 @@
 -- Loading and judging a file at once, and what an accepted file's runs do.
 use Rattle.std.specs.Prelude.{ℕ, List, [], ◌∷◌, ◌≡◌}
 use Rattle.std.proofs.Math.Bool.{So}
-use Rattle.std.proofs.Math.Option.{some}
+use Rattle.std.specs.Prelude.{Some as some}
 use Rattle.program.specs.Each.{Member}
 use Rattle.program.specs.Program.{chan_at}
 use Rattle.program.specs.Run.{Path, made, Step, run}

@@ -1,7 +1,7 @@
 -- What judge and verdict answer of any store, case by case: the propositions that the demands are stated with, in document 01's numbers.
 use Rattle.std.specs.Prelude.{ℕ, ◌+◌, ◌<◌, ◌≤◌, List, [], ◌∷◌, ◌++◌, ◌≡◌, length, take, replicate}
 use Rattle.std.proofs.Math.Bool.{So}
-use Rattle.std.proofs.Math.Option.{some}
+use Rattle.std.specs.Prelude.{Some as some}
 use Rattle.program.specs.declared.Bind.{Bind}
 use Rattle.program.specs.declared.Word.{Word}
 use Rattle.program.specs.declared.Word.TheVariants.{OneShot, OneToOne, FanOut, FanIn, OneSync}

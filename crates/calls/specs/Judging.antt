@@ -1,6 +1,6 @@
 -- "Flow rules" and "Walks and claims" of a document: what judge and verdict answer of it.
 use Rattle.std.specs.Prelude.{ℕ, Bool, not, List, [], ◌∷◌, map, length}
-use Rattle.std.proofs.Math.Option.{Option, none, some}
+use Rattle.std.specs.Prelude.{Option, None as none, Some as some}
 use Rattle.program.specs.declared.Word.{Word}
 use Rattle.program.specs.declared.Word.TheVariants.{OneShot, OneToOne, FanOut, FanIn, OneSync}
 use Rattle.program.specs.Test.{least}

@@ -1,6 +1,6 @@
 -- Which files load takes: refusals 1 to 9 in their order, or the document.
 use Rattle.std.specs.Prelude.{true, false, length, ltb}
-use Rattle.std.proofs.Math.Option.{none, some}
+use Rattle.std.specs.Prelude.{None as none, Some as some}
 use Rattle.format.specs.declared.Reason.TheVariants.{TooLong}
 use Rattle.format.specs.Limits.{byte_limit}
 use Rattle.format.specs.Refusals.{refusal, Result, refused, accepted}

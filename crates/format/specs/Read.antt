@@ -1,7 +1,7 @@
 -- Reading a file line by line, with refusals 2 to 5.
 use Rattle.std.specs.Prelude.{ℕ, zero, suc, ◌+◌, Bool, true, false, not, ◌&&◌, ◌||◌, List, [], ◌∷◌, ◌++◌, length, ltb, eqb}
 use Prim.Native.String.{String}
-use Rattle.std.proofs.Math.Option.{Option, none, some}
+use Rattle.std.specs.Prelude.{Option, None as none, Some as some}
 use Rattle.program.specs.declared.Row.{Row}
 use Rattle.program.specs.declared.Form.{Form}
 use Rattle.program.specs.declared.Word.{Word}

@@ -1,6 +1,6 @@
 -- "Turned back because of the input", 6 to 9: each at its smallest line.
 use Rattle.std.specs.Prelude.{ℕ, zero, suc, ◌+◌, Bool, true, false, not, ◌&&◌, ◌||◌, List, [], ◌∷◌, length, take, ltb}
-use Rattle.std.proofs.Math.Option.{Option, none, some}
+use Rattle.std.specs.Prelude.{Option, None as none, Some as some}
 use Rattle.program.specs.Test.{pick, least}
 use Rattle.program.specs.Maybe.{◌>>=◌, ◌<|>◌}
 use Rattle.program.specs.Each.{every, collect, elem}

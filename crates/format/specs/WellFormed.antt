@@ -1,7 +1,7 @@
 -- The documents that a file of any length can say. Orderly: what refusals 2 to 5 ask of the numbers and their order (a row's number is its place, so that it counts from
 -- 0 needs no test). Well-formed: 6 to 9 find nothing either.
 use Rattle.std.specs.Prelude.{Bool, true, false, not, ◌&&◌, List, map}
-use Rattle.std.proofs.Math.Option.{none, some}
+use Rattle.std.specs.Prelude.{None as none, Some as some}
 use Rattle.program.specs.Each.{every}
 use Rattle.format.specs.Document.{Entry, Claim, Document}
 use Rattle.format.specs.Print.{lines_of}

@@ -1,6 +1,6 @@
 -- What the functions that read a line into a store promise.
 use Rattle.std.specs.Prelude.{ℕ, ◌≡◌, length, take, drop}
-use Rattle.std.proofs.Math.Option.{Option, none, some}
+use Rattle.std.specs.Prelude.{Option, None as none, Some as some}
 use Rattle.program.specs.Maybe.{◌>>=◌}
 use Rattle.format.specs.declared.Reason.{Reason}
 use Rattle.format.specs.declared.Reason.TheVariants.{NotALine}

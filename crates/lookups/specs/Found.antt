@@ -1,6 +1,6 @@
 -- What a look-up finds, as the enums of the code have it.
 use Rattle.std.specs.Prelude.{ℕ}
-use Rattle.std.proofs.Math.Option.{Option, none, some}
+use Rattle.std.specs.Prelude.{Option, None as none, Some as some}
 use Rattle.machine.specs.declared.Frame.{Frame}
 use Rattle.machine.specs.declared.Held.{Held}
 use Rattle.lookups.specs.declared.Found.{Found}

@@ -1,5 +1,5 @@
 -- A move, one find after the other.
-use mathlib.Core.Option.{Option, none, some}
+use Rattle.std.specs.Prelude.{Option, None as none, Some as some}
 use mathlib.Core.Path.{◌≡◌, refl}
 use lib.Dec.{eqb}
 use Rattle.program.specs.Maybe.{◌>>=◌, given}

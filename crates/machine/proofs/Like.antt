@@ -1,6 +1,6 @@
 -- Two steps that find alike: both nothing, or both something that stands in a relation.
 use mathlib.Core.Path.{◌≡◌, refl}
-use mathlib.Core.Option.{Option, none, some}
+use Rattle.std.specs.Prelude.{Option, None as none, Some as some}
 use Rattle.program.specs.Maybe.{◌>>=◌, ◌<|>◌}
 
 pub data Like {A B : Type 0} (R : A → B → Type 0) : Option A → Option B → Type 0 where

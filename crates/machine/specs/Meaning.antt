@@ -1,6 +1,6 @@
 -- What threads, cells and frames stand for: states, environments, values and waiting returns of the run rules. Each cell carries an instance, which counts only where the cell makes a channel.
 use Rattle.std.specs.Prelude.{ℕ, suc, List, [], ◌∷◌, length, eqb}
-use Rattle.std.proofs.Math.Option.{Option, none, some}
+use Rattle.std.specs.Prelude.{Option, None as none, Some as some}
 use Rattle.program.specs.Test.{pick}
 use Rattle.program.specs.Maybe.{◌>>=◌}
 use Rattle.program.specs.Run.{Instance, Value, unit, channel, closure, Env, empty, extend, Return, State}

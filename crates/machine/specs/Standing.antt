@@ -1,6 +1,6 @@
 -- "a run ends in a state that stands for the pool that the steps of its accepted moves leave, thread for leaf, instance for instance": what this says, and what a move answers.
 use Rattle.std.specs.Prelude.{ℕ, true, false, List, [], ◌∷◌, ◌++◌, ◌≡◌}
-use Rattle.std.proofs.Math.Option.{Option, none, some}
+use Rattle.std.specs.Prelude.{Option, None as none, Some as some}
 use Rattle.program.specs.Program.{Program}
 use Rattle.program.specs.Run.{Path, Instance, State, Thread, Pool, Step, own, meet, leaf_state, added, start_pool, run}
 use Rattle.program.specs.Snoc.{ε}

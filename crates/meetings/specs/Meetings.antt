@@ -1,6 +1,6 @@
 -- What a meeting does, as the enum of the code has it.
 use Rattle.std.specs.Prelude.{[], ◌∷◌}
-use Rattle.std.proofs.Math.Option.{Option, none, some}
+use Rattle.std.specs.Prelude.{Option, None as none, Some as some}
 use Rattle.machine.specs.Machine.{Change}
 use Rattle.thread_changes.specs.Changes.{change_of}
 use Rattle.meetings.specs.declared.Met.{Met}

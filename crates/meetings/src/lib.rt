@@ -1,7 +1,7 @@
 // A send and a receive that meet: what each thread at a sync row offers or awaits, and what a meeting does.
 #![tactic(auto)]
 
-ghost use Rattle.std.proofs.Math.Option.{some};
+ghost use Rattle.std.specs.Prelude.{Some as some};
 ghost use Rattle.std.specs.Prelude.{◌≡◌};
 ghost use Rattle.machine.specs.Machine.{event_of, sends, sends_what, awaits, both_go_on, meeting};
 ghost use Rattle.run_memory.specs.RunMemory.{InLimits, memory_in};

@@ -1,6 +1,6 @@
 -- The answers and moves of the code.
 use Rattle.std.specs.Prelude.{ℕ, List, [], ◌∷◌}
-use Rattle.std.proofs.Math.Option.{Option, some}
+use Rattle.std.specs.Prelude.{Option, Some as some}
 use Rattle.program.specs.Maybe.{◌>>=◌}
 use Rattle.machine.specs.Machine.{Change}
 use Rattle.run_calls.specs.declared.RunAnswer.{RunAnswer}

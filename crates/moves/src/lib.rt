@@ -2,7 +2,7 @@
 #![tactic(auto)]
 
 ghost use Rattle.std.specs.Prelude.{◌≤◌, ◌<◌, [], ◌∷◌, ◌≡◌};
-ghost use Rattle.std.proofs.Math.Option.{some};
+ghost use Rattle.std.specs.Prelude.{Some as some};
 ghost use Rattle.format.specs.Refusals.{refusal};
 ghost use Rattle.machine.specs.Machine.{thread_limit};
 ghost use Rattle.run_memory.specs.RunMemory.{InLimits, in_use, has_room};

@@ -1,7 +1,7 @@
 -- The executable flow rules are equivalent to the propositions.
 use Prim.Native.Nat.{ℕ}
 use mathlib.Core.Bool.{Bool, So, and-eq-true_iff}
-use mathlib.Core.Option.{Option, some}
+use Rattle.std.specs.Prelude.{Option, Some as some}
 use mathlib.Core.Path.{◌≡◌}
 use mathlib.Core.Logic.Iff
 use mathlib.Core.Logic.{◌↔◌}

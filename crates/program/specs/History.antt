@@ -1,5 +1,5 @@
 -- "Its history is the pool's paths so standing, those at sends and those at receives", and when it fits a word.
-use Rattle.std.proofs.Math.Option.{some}
+use Rattle.std.specs.Prelude.{Some as some}
 use Rattle.std.specs.Prelude.{◌≡◌}
 use Rattle.program.specs.declared.Word.{Word}
 use Rattle.program.specs.Each.{Member}

@@ -1,7 +1,7 @@
 -- What may be missing: steps that each may find nothing, and tests of what they find.
 use Rattle.std.specs.Prelude.{Bool, true, false, refl}
 use Rattle.std.proofs.Math.Bool.{So}
-use Rattle.std.proofs.Math.Option.{Option, none, some}
+use Rattle.std.specs.Prelude.{Option, None as none, Some as some}
 
 module _ {A B : Type 0} where
   infixl 10 ◌>>=◌

@@ -1,7 +1,7 @@
 -- Tests: Bool functions that quantify over the numbers below a bound, and decisions as tests.
 use Rattle.std.specs.Prelude.{ℕ, zero, suc, Bool, true, false, ◌&&◌, ◌||◌, ◌⊎◌}
 use Rattle.std.proofs.Common.{inl, inr, ⊎_elim}
-use Rattle.std.proofs.Math.Option.{Option, none, some}
+use Rattle.std.specs.Prelude.{Option, None as none, Some as some}
 
 -- a branch
 abbrev pub pick : {A : Type 0} → Bool → A → A → A

@@ -1,7 +1,7 @@
 -- "Walks and claims": row steps, walks, pairs that can share a run, send and receive places, and what a claim says of them.
 use Rattle.std.specs.Prelude.{ℕ, Bool, true, false, ◌&&◌, ◌||◌, ◌≡◌, ◌⊎◌, length, eqb}
 use Rattle.std.proofs.Math.Bool.{So}
-use Rattle.std.proofs.Math.Option.{Option, some}
+use Rattle.std.specs.Prelude.{Option, Some as some}
 use Rattle.program.specs.declared.Word.{Word}
 use Rattle.program.specs.declared.Form.{Form}
 use Rattle.program.specs.Test.{any}

@@ -2,7 +2,7 @@
 use Prim.Native.Nat.{ℕ}
 use Prim.Native.String.{String}
 use mathlib.Core.List.{List, [], ◌∷◌}
-use mathlib.Core.Option.{Option, none, some}
+use Rattle.std.specs.Prelude.{Option, None as none, Some as some}
 use mathlib.Core.Path.{◌≡◌, refl, ◌∙◌}
 use Rattle.program.specs.Maybe.{◌<|>◌}
 use Rattle.format.specs.Text.{Bytes, ascii, expect, one_of}

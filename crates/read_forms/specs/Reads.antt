@@ -1,6 +1,6 @@
 -- What the answers of the reading functions say, in the terms of the format's definitions.
 use Rattle.std.specs.Prelude.{ℕ, Bool, false, List, ◌≡◌, get_or, eqb}
-use Rattle.std.proofs.Math.Option.{Option, none, some}
+use Rattle.std.specs.Prelude.{Option, None as none, Some as some}
 use Rattle.program.specs.declared.Form.{Form}
 use Rattle.program.specs.Maybe.{◌>>=◌}
 use Rattle.format.specs.Text.{Bytes, expect, read_arguments}

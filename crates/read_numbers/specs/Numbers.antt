@@ -1,6 +1,6 @@
 -- What the answer of the number reader says, in the terms of the format's definitions.
 use Rattle.std.specs.Prelude.{ℕ}
-use Rattle.std.proofs.Math.Option.{Option, none, some}
+use Rattle.std.specs.Prelude.{Option, None as none, Some as some}
 use Rattle.read_numbers.specs.declared.NumberRead.{NumberRead}
 use Rattle.read_numbers.specs.declared.NumberRead.TheVariants as number
 

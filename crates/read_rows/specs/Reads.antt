@@ -1,6 +1,6 @@
 -- What the answers of the reading functions say, in the terms of the format's definitions.
 use Rattle.std.specs.Prelude.{ℕ}
-use Rattle.std.proofs.Math.Option.{Option, none, some}
+use Rattle.std.specs.Prelude.{Option, None as none, Some as some}
 use Rattle.program.specs.declared.Row.{Row}
 use Rattle.raw_rows.specs.Raw.{raw_row}
 use Rattle.read_rows.specs.declared.RowRead.{RowRead}

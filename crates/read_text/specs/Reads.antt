@@ -1,6 +1,6 @@
 -- What the answer of a search for a word says, in the terms of the format's definitions, and which words are looked for.
 use Rattle.std.specs.Prelude.{ℕ, Bool, true, ◌&&◌, [], ◌∷◌, ltb}
-use Rattle.std.proofs.Math.Option.{Option, none, some}
+use Rattle.std.specs.Prelude.{Option, None as none, Some as some}
 use Rattle.format.specs.Text.{Bytes}
 use Rattle.read_text.specs.declared.Next.{Next}
 use Rattle.read_text.specs.declared.Next.TheVariants as next

@@ -1,6 +1,6 @@
 -- What the answers of the reading functions say, in the terms of the format's definitions.
 use Rattle.std.specs.Prelude.{ℕ}
-use Rattle.std.proofs.Math.Option.{Option, none, some}
+use Rattle.std.specs.Prelude.{Option, None as none, Some as some}
 use Rattle.program.specs.declared.Word.{Word}
 use Rattle.format.specs.declared.Section.{Section}
 use Rattle.read_words.specs.declared.SectionRead.{SectionRead}

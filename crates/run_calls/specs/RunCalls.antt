@@ -4,7 +4,7 @@
 --   meet    the same for a sending and a receiving one
 -- The contract of each public function is equality with its definition here.
 use Rattle.std.specs.Prelude.{ℕ, ◌≤◌, Bool, not, ◌||◌, List, [], ◌∷◌, ◌≡◌, length, set, take, ltb, eqb}
-use Rattle.std.proofs.Math.Option.{Option, none, some}
+use Rattle.std.specs.Prelude.{Option, None as none, Some as some}
 use Rattle.program.specs.Program.{Program}
 use Rattle.program.specs.Test.{pick}
 use Rattle.format.specs.declared.Reason.TheVariants.{StoreTooShort, StoreEmpty, StoreUnsound, MoveNotAllowed, LimitExceeded}

@@ -6,7 +6,7 @@ use mathlib.Core.Path.{◌≡◌, refl, sym, ◌∙◌, fun_ext}
 use lib.ListN.{length, set, length-set}
 use lib.Seq.{get_or-set_same, get_or-set_other}
 use native.Mathlib.Decide.{ℕ_discrete as dec_eq}
-use mathlib.Core.Option.{Option, none, some}
+use Rattle.std.specs.Prelude.{Option, None as none, Some as some}
 use Rattle.program.specs.Test.{least}
 use Rattle.program.specs.Flow.{Table, keeps_at, keeps_all}
 use Rattle.program.proofs.Test.{all_intro, Least as Smallest, least_is, none_passes, smallest, same_tests}

@@ -1,6 +1,6 @@
 -- The rows of a store: a row by its number, and the program of the first n rows.
 use Rattle.std.specs.Prelude.{ℕ, ◌+◌, ◌*◌, [], ◌∷◌, get_or, take, drop}
-use Rattle.std.proofs.Math.Option.{Option, none, some}
+use Rattle.std.specs.Prelude.{Option, None as none, Some as some}
 use Rattle.program.specs.declared.Row.{Row}
 use Rattle.program.specs.Program.{Program}
 use Rattle.format.specs.Limits.{row_limit}

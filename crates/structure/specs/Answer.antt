@@ -1,5 +1,5 @@
 -- What the answer of this crate says, in the terms of the format's definitions.
-use Rattle.std.proofs.Math.Option.{Option, none, some}
+use Rattle.std.specs.Prelude.{Option, None as none, Some as some}
 use Rattle.std.specs.Prelude.{length}
 use Rattle.program.specs.Test.{least}
 use Rattle.program.specs.Maybe.{◌>>=◌, ◌<|>◌}

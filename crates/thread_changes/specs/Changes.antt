@@ -1,6 +1,6 @@
 -- What a thread's move does, as the enum of the code has it.
 use Rattle.std.specs.Prelude.{ℕ, List, [], ◌∷◌}
-use Rattle.std.proofs.Math.Option.{Option, none, some}
+use Rattle.std.specs.Prelude.{Option, None as none, Some as some}
 use Rattle.program.specs.declared.Bind.{Bind}
 use Rattle.program.specs.Maybe.{◌>>=◌}
 use Rattle.machine.specs.declared.ThreadRecord.{ThreadRecord}

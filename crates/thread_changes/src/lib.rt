@@ -2,7 +2,7 @@
 #![tactic(auto)]
 
 ghost use Rattle.std.specs.Prelude.{◌≡◌};
-ghost use Rattle.std.proofs.Math.Option.{some};
+ghost use Rattle.std.specs.Prelude.{Some as some};
 ghost use Rattle.program.specs.declared.Form.{Form};
 ghost use Rattle.machine.specs.declared.Held.{Held};
 ghost use Rattle.machine.specs.declared.Kept.{Kept};

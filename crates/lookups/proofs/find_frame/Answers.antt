@@ -1,6 +1,6 @@
 -- `find_frame` meets its contract: frames are numbered from 1 to as many as are in use.
 use native.Mathlib.Omega.{arith}
-use mathlib.Core.Option.{some}
+use Rattle.std.specs.Prelude.{Some as some}
 use mathlib.Core.Path.{ap, sym, ◌∙◌}
 use Rattle.run_memory.specs.declared.InUse.{InUse}
 use Rattle.run_memory.specs.RunMemory.{memory_in}

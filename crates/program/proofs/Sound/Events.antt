@@ -1,7 +1,7 @@
 -- What a thread at a sync row waits for: the place is one of its channel's, and a send and a receive that meet keep the tables.
 use Prim.Native.Nat.{ℕ, ◌<◌}
 use mathlib.Core.Bool.{So}
-use mathlib.Core.Option.{some}
+use Rattle.std.specs.Prelude.{Some as some}
 use mathlib.Core.Path.{◌≡◌, refl}
 use lib.ListN.{length}
 use Rattle.program.specs.declared.Bind.{Bind}

@@ -1,7 +1,7 @@
 -- Every pool that a run comes to has a walk for each path, any two of them related as their paths are, and any invariant of theirs.
 use mathlib.Core.Bool.{So}
 use mathlib.Core.List.{List, [], ◌∷◌, ◌++◌, map, map-append}
-use mathlib.Core.Option.{Option, none, some}
+use Rattle.std.specs.Prelude.{Option, None as none, Some as some}
 use mathlib.Core.Path.{◌≡◌, refl, sym, ◌∙◌, ap}
 use Rattle.program.specs.declared.Bind.{Bind}
 use Rattle.program.specs.Each.{Member, Each, nil, ◌&◌}

@@ -1,7 +1,7 @@
 -- In every run, each thread's walk is a walk, and its state is covered.
 use mathlib.Core.Bool.{So}
 use mathlib.Core.Path.{◌≡◌, refl}
-use mathlib.Core.Option.{some}
+use Rattle.std.specs.Prelude.{Some as some}
 use mathlib.Core.List.{List}
 use Rattle.program.specs.declared.Bind.{Bind}
 use Rattle.program.specs.Flow.{Table, keeps_all}

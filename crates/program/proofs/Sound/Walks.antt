@@ -1,6 +1,6 @@
 -- Walks that part are not ordered; what begins a walk is a walk.
 use Prim.Native.Nat.{ℕ}
-use mathlib.Core.Option.{some}
+use Rattle.std.specs.Prelude.{Some as some}
 use mathlib.Core.Path.{◌≡◌, refl, ap}
 use mathlib.Core.Logic.{inl, inr}
 use Rattle.program.specs.Flow.{Table}
