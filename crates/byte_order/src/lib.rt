@@ -7,12 +7,12 @@ ghost use Rattle.std.specs.Prelude.{◌≡◌, min, max};
 pub fn larger(a: u8, b: u8) -> u8
     ensures { result ≡ max a b }
 {
-    if a < b { b } else { a }
+    a.max(b)
 }
 
 // The smaller number.
 pub fn smaller(a: u8, b: u8) -> u8
     ensures { result ≡ min a b }
 {
-    if a < b { a } else { b }
+    a.min(b)
 }

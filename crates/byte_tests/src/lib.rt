@@ -4,20 +4,16 @@
 ghost use Rattle.std.specs.Prelude.{◌≡◌, ltb, eqb};
 ghost use Rattle.program.specs.Each.{every};
 
-use byte_order::larger;
-
 // Whether every byte is below a limit: the largest is. Every byte is looked at, so that the loop takes many bytes at a time.
 pub fn all_below(bytes: &[u8], limit: u8) -> bool
     ensures { result ≡ every (λ x. ltb x limit) bytes.now }
 {
     if limit == 0 {
-        return bytes.len() == 0;
+        return bytes.is_empty();
     }
     let mut most = 0;
-    let mut i = 0;
-    while i < bytes.len() {
-        most = larger(most, bytes[i]);
-        i += 1;
+    for &b in bytes {
+        most = most.max(b);
     }
     most < limit
 }

@@ -8,7 +8,7 @@ ghost use Rattle.format.specs.Text.{byte_at, digit_at};
 pub fn byte_at(s: &[u8], at: usize) -> u8
     ensures { result ≡ byte_at s.now at }
 {
-    if at < s.len() { s[at] } else { 0 }
+    s.get(at).copied().unwrap_or(0)
 }
 
 // The value of the decimal digit at a position, and 10 where there is none.
@@ -17,10 +17,10 @@ pub fn digit_at(s: &[u8], at: usize) -> u16
     ensures { result ≡ digit_at s.now at }
 {
     let b = byte_at(s, at);
-    if b < 48 {
+    if b < b'0' {
         return 10;
     }
-    if 57 < b {
+    if b'9' < b {
         return 10;
     }
     b as u16 - 48

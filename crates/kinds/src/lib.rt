@@ -16,8 +16,7 @@ pub fn form_place(kind: u8) -> usize
     if 15 < kind {
         return 13;
     }
-    let place = kind - 2;
-    place as usize
+    kind as usize - 2
 }
 
 // How many numbers a form of this kind holds.
@@ -25,6 +24,5 @@ pub fn arity(kind: u8) -> usize
     ensures { result ≡ arity kind }
 {
     let counts = [0, 0, 2, 1, 2, 1, 1, 3, 1, 1, 1, 1, 5, 2];
-    let p = form_place(kind);
-    counts[p]
+    counts[form_place(kind)]
 }

@@ -44,7 +44,7 @@ impl Store {
 }
 
 // The bytes of a row.
-#[derive(Drop)]
+#[derive(Clone, Copy)]
 pub struct Cells {
     pub kind: u8,
     pub name: u8,
@@ -61,9 +61,5 @@ pub fn clear(store: &mut [u8])
     requires { store_size ≤ length store.old }
     ensures { store.new ≡ replicate store_size 0 ++ drop store_size store.old }
 {
-    let mut i = 0;
-    while i < Store::SIZE {
-        store[i] = 0;
-        i += 1;
-    }
+    store[..Store::SIZE].fill(0);
 }

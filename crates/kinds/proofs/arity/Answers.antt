@@ -3,11 +3,11 @@ use native.Mathlib.Omega.{arith}
 use Rattle.kinds.proofs.Counts.{place_below, count_is}
 use Rattle.kinds.proofs.arity.Goals as goal
 
-pub offset_bounds-counts-p : goal.offset_bounds-counts-p
-offset_bounds-counts-p c = omega (arith, c.form_place-p.ensures, place_below c.args.kind)
+pub offset_bounds-counts-form_place : goal.offset_bounds-counts-form_place
+offset_bounds-counts-form_place c = omega (arith, c.form_place.ensures, place_below c.args.kind)
 
-pub bounds-counts-p : goal.bounds-counts-p
-bounds-counts-p c = omega (arith, c.form_place-p.ensures, place_below c.args.kind)
+pub bounds-counts-form_place : goal.bounds-counts-form_place
+bounds-counts-form_place c = omega (arith, c.form_place.ensures, place_below c.args.kind)
 
 pub returns : goal.returns
-returns c = rw c.form_place-p.ensures (count_is c.args.kind)
+returns c = rw c.form_place.ensures (count_is c.args.kind)

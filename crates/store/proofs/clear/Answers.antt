@@ -1,13 +1,7 @@
-use Prim.Native.Nat.{ℕ}
-use native.Mathlib.Omega.{arith}
-use mathlib.Core.Path.{◌≡◌}
-use mathlib.Core.List.{List, ◌++◌}
-use lib.ListN.{drop, replicate}
+-- The first bytes, as many as a store has, are filled with 0; the rest stays.
+use Rattle.std.proofs.Common.{length-take-le}
 use Rattle.calls.specs.Layout.{store_size}
 use Rattle.store.proofs.clear.Goals as goal
 
-filled : (n i : ℕ) (s t : List ℕ) → i ≡ n → t ≡ replicate i 0 ++ drop i s → t ≡ replicate n 0 ++ drop n s
-filled n i s t e h = rw e at h
-
 pub returns : goal.returns
-returns c = let e : c.loop-i.i ≡ store_size = omega arith in filled store_size _ _ _ e c.loop-i.invariant.2
+returns c = rw (c.fill.ensures.after (λ y e. e), length-take-le store_size c.args.store.now c.requires)
