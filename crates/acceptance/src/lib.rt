@@ -3,14 +3,14 @@
 
 ghost use Rattle.accepting.specs.Accepting.{Accepts};
 
-use calls::{JudgeAnswer, LoadAnswer};
+use calls::JudgeAnswer;
 
 // Loads a file into the lent store and judges it: the count of its claims, or the refusal of load or of judge.
 pub fn accept(file: &[u8], store: &mut [u8]) -> JudgeAnswer
     ensures { Accepts file.now store.old result store.new }
 {
     match call_load::load(file, store) {
-        LoadAnswer::Refused(refusal) => JudgeAnswer::Refused(refusal),
-        LoadAnswer::Loaded(_) => call_judge::judge(store),
+        Err(refusal) => Err(refusal),
+        Ok(_) => call_judge::judge(store),
     }
 }

@@ -1,19 +1,20 @@
 -- What load and judge promise, put together.
+use Rattle.std.specs.Prelude.{Ok, Err}
 use Prim.Native.Nat.{ℕ}
 use native.Mathlib.Omega.{arith}
 use mathlib.Core.Path.{◌≡◌, refl, ◌∙◌}
 use Rattle.format.specs.declared.Refusal.{Refusal}
 use Rattle.format.specs.Text.{Bytes}
 use Rattle.calls.specs.declared.Counts.{Counts}
-use Rattle.calls.specs.declared.LoadAnswer.{LoadAnswer}
-use Rattle.calls.specs.declared.JudgeAnswer.{JudgeAnswer}
+use Rattle.calls.specs.Answers.{LoadAnswer}
+use Rattle.calls.specs.Answers.{JudgeAnswer}
 use Rattle.calls.specs.Answers.{refusal_answer, load_answer, judge_answer}
 use Rattle.calls.specs.Calls.{Leaves, unaltered, load, judge}
 use Rattle.demands.proofs.Promises.{sound}
 use Rattle.accepting.specs.Accepting.{ClaimsFit, SoundFile, judged_after, Accepts}
 
 module _ (file store : Bytes) {left : Bytes} where
-  pub file_refused : {r : Refusal} → Leaves (load file store) (LoadAnswer.Refused r) left → Accepts file store (JudgeAnswer.Refused r) left
+  pub file_refused : {r : Refusal} → Leaves (load file store) (Err r) left → Accepts file store (Err r) left
   unfolding judged_after judge_answer refusal_answer
   file_refused loads =
       record {
@@ -22,7 +23,7 @@ module _ (file store : Bytes) {left : Bytes} where
         sound = λ n e. let z : ◌≡◌ {A = ℕ} 0 1 = cc in absurd (omega arith);
       }
 
-  pub file_judged : {c : Counts} {a : JudgeAnswer} {after : Bytes} → Leaves (load file store) (LoadAnswer.Loaded c) left → Leaves (unaltered (judge left) left) a after
+  pub file_judged : {c : Counts} {a : JudgeAnswer} {after : Bytes} → Leaves (load file store) (Ok c) left → Leaves (unaltered (judge left) left) a after
       → Accepts file store a left
   unfolding judged_after SoundFile ClaimsFit load_answer
   file_judged {c} loads judges =

@@ -1,4 +1,5 @@
 -- Loading and judging a file at once, and what an accepted file's runs do.
+use Rattle.std.specs.Prelude.{Ok, Err}
 use Rattle.std.specs.Prelude.{ℕ, List, [], ◌∷◌, ◌≡◌}
 use Rattle.std.proofs.Math.Bool.{So}
 use Rattle.std.specs.Prelude.{Some as some}
@@ -10,8 +11,8 @@ use Rattle.format.specs.Text.{Bytes}
 use Rattle.format.specs.Document.{Claim, Document}
 use Rattle.format.specs.Print.{document_text}
 use Rattle.format.specs.WellFormed.{well_formed}
-use Rattle.calls.specs.declared.LoadAnswer.{LoadAnswer}
-use Rattle.calls.specs.declared.JudgeAnswer.{JudgeAnswer}
+use Rattle.calls.specs.Answers.{LoadAnswer}
+use Rattle.calls.specs.Answers.{JudgeAnswer}
 use Rattle.calls.specs.Answers.{answered, judge_answer}
 use Rattle.calls.specs.Calls.{load, judge}
 
@@ -27,8 +28,8 @@ SoundFile file = (d : Document) × (file ≡ document_text d) × So (well_formed
 
 -- judge, of the store as load left it, where load took the file
 unfoldable pub judged_after : LoadAnswer → Bytes → JudgeAnswer
-judged_after (LoadAnswer.Refused r) left = JudgeAnswer.Refused r
-judged_after (LoadAnswer.Loaded c) left = judge left
+judged_after (Err r) left = Err r
+judged_after (Ok c) left = judge left
 
 -- the answer and the lent bytes are those of load and judge in turn; where the file is accepted, demand 3 holds of it
 pub record Accepts (file store : Bytes) (answer : JudgeAnswer) (left : Bytes) : Type 0 where

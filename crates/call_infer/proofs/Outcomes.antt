@@ -1,4 +1,5 @@
 -- The call: a store that does not open stays, one that opens gets the smallest tables and their counts.
+use Rattle.std.specs.Prelude.{Ok, Err}
 use Prim.Native.Nat.{ℕ, ◌≤◌}
 use native.Mathlib.Omega.{arith}
 use mathlib.Core.Path.{◌≡◌, refl, sym, ap, ◌∙◌}
@@ -12,7 +13,7 @@ use Rattle.format.specs.Document.{Document}
 use Rattle.format.proofs.Structure.{orderly_of}
 use Rattle.program.specs.Program.{Program}
 use Rattle.calls.specs.declared.Counts.{Counts}
-use Rattle.calls.specs.declared.LoadAnswer.{LoadAnswer}
+use Rattle.calls.specs.Answers.{LoadAnswer}
 use Rattle.calls.specs.Layout.{store_size, encode, decode}
 use Rattle.calls.specs.Canonical.{count_rows}
 use Rattle.calls.specs.Calls.{Leaves, opened, refilled, loaded, stored, and_then}
@@ -21,7 +22,7 @@ use Rattle.calls.proofs.Codec.{encode-length, decode-encode}
 use Rattle.calls.proofs.Calls.{opened_is}
 use Rattle.inference.proofs.Inference.{smallest_well}
 use Rattle.store.proofs.Laws.{program_length}
-use Rattle.opening.specs.declared.Opened.{Opened}
+use Rattle.opening.specs.Opening.{Opened}
 use Rattle.opening.specs.Opening.{OpenedIs}
 use Rattle.opening.proofs.Opening.{refused_is, opens_is}
 use Rattle.send_adds.specs.Sends.{Ready}
@@ -38,11 +39,11 @@ module _ (store : Bytes) where
   abbrev fixed : Bytes
   fixed = take store_size store
 
-  pub refused_store : (r : Refusal) → OpenedIs (opened store) fixed (Opened.Refused r) → Leaves (infer store) (LoadAnswer.Refused r) store
+  pub refused_store : (r : Refusal) → OpenedIs (opened store) fixed (Err r) → Leaves (infer store) (Err r) store
   unfolding infer stored and_then
   refused_store r h = rw (refused_is fixed (opened store) r h) (record { answer_is = refl; bytes_are = refl })
 
-  module _ (n : ℕ) (o : OpenedIs (opened store) fixed (Opened.Rows n)) where
+  module _ (n : ℕ) (o : OpenedIs (opened store) fixed (Ok n)) where
     opens : (opened store ≡ accepted (decode fixed)) × (n ≡ count_rows row_limit fixed)
     opens = opens_is fixed (opened store) n o
 
@@ -55,7 +56,7 @@ module _ (store : Bytes) where
     pub size_left : (left : Bytes) → Least n store left → length (take store_size left) ≡ store_size
     size_left left h = let l = long_left left h in simp length-take (omega arith)
 
-    pub left_store : (left : Bytes) (c : Counts) → Least n store left → c ≡ store_counts n (take store_size left) → Leaves (infer store) (LoadAnswer.Loaded c) left
+    pub left_store : (left : Bytes) (c : Counts) → Least n store left → c ≡ store_counts n (take store_size left) → Leaves (infer store) (Ok c) left
     unfolding infer stored loaded and_then refilled
     left_store left c h e =
         let d : Document = decode fixed in
@@ -65,4 +66,4 @@ module _ (store : Bytes) where
         let back : decode (take store_size left) ≡ d' = ap decode (ap (take store_size) b ∙ take_at (encode d') (drop store_size store) store_size (encode-length d' (orderly_of d' w)))
         ∙ decode-encode d' (orderly_of d' w) in
         let rows : n ≡ length d'.rows = sym (program_length n store) ∙ ap (λ (p : Program). length p) (stores.program_is store d opens.0 n opens.1 ∙ sym (same_rows d)) in
-        rw opens.0 (record { answer_is = ap LoadAnswer.Loaded (e ∙ own_counts n (take store_size left) d' rows back); bytes_are = b })
+        rw opens.0 (record { answer_is = ap Ok (e ∙ own_counts n (take store_size left) d' rows back); bytes_are = b })

@@ -4,7 +4,6 @@
 ghost use Rattle.calls.specs.Calls.{Leaves, judge, unaltered};
 
 use calls::JudgeAnswer;
-use opening::Opened;
 use store::Store;
 
 // Judges a store: the count of its claims, all of which hold, or refusals 20 to 22, 10 and 11.
@@ -12,7 +11,7 @@ pub fn judge(store: &[u8]) -> JudgeAnswer
     ensures { Leaves (unaltered (judge store.entry.now) store.entry.now) result store.exit.now }
 {
     match opening::open(store) {
-        Opened::Refused(refusal) => JudgeAnswer::Refused(refusal),
-        Opened::Rows(rows) => judging::judge_rows(&store[..Store::SIZE], rows),
+        Err(refusal) => Err(refusal),
+        Ok(rows) => judging::judge_rows(&store[..Store::SIZE], rows),
     }
 }

@@ -4,7 +4,7 @@
 ghost use Rattle.calls.specs.Calls.{Leaves, load};
 
 use calls::LoadAnswer;
-use format::{Reason, Refusal};
+use format::Reason;
 use store::Store;
 
 // Loads a file into the lent store: its counts, or refusals 20 and 1 to 9.
@@ -12,10 +12,7 @@ pub fn load(file: &[u8], store: &mut [u8]) -> LoadAnswer
     ensures { Leaves (load file.now store.old) result store.new }
 {
     if store.len() < Store::SIZE {
-        return LoadAnswer::Refused(Refusal {
-            reason: Reason::StoreTooShort,
-            line: 0,
-        });
+        return Err(Reason::StoreTooShort.at(0));
     }
     load_file::load_file(file, store)
 }

@@ -1,4 +1,5 @@
 -- The call: a refusal of replace is passed on; a store with the set swapped is judged as what replace leaves, and with the set swapped back is as it was.
+use Rattle.std.specs.Prelude.{Err}
 use Prim.Native.Nat.{ℕ}
 use mathlib.Core.Bool.{Bool}
 use mathlib.Core.Path.{◌≡◌, refl, sym, ap, ◌∙◌}
@@ -7,8 +8,8 @@ use lib.Seq.{sets}
 use Rattle.format.specs.declared.Refusal.{Refusal}
 use Rattle.format.specs.Text.{Bytes}
 use Rattle.format.specs.Document.{Document}
-use Rattle.calls.specs.declared.LoadAnswer.{LoadAnswer}
-use Rattle.calls.specs.declared.JudgeAnswer.{JudgeAnswer}
+use Rattle.calls.specs.Answers.{LoadAnswer}
+use Rattle.calls.specs.Answers.{JudgeAnswer}
 use Rattle.calls.specs.Layout.{member_limit, store_size, flow_at, decode}
 use Rattle.calls.specs.Judging.{judge_document}
 use Rattle.calls.specs.Calls.{Outcome, Leaves, unaltered, judge_answered, judge}
@@ -18,8 +19,8 @@ use Rattle.replacing.specs.Replacing.{Replaceable}
 use Rattle.replacing.proofs.Left.{left_is, left_opens, left_document, left_answer, back}
 
 module _ (store : Bytes) (n : ℕ) (unit : Bool) (list : Bytes) where
-  pub refused_left : {r : Refusal} → replace store n unit list ≡ record { answer = LoadAnswer.Refused r; bytes = store }
-      → Leaves (unaltered (preview store n unit list) store) (JudgeAnswer.Refused r) store
+  pub refused_left : {r : Refusal} → replace store n unit list ≡ record { answer = Err r; bytes = store }
+      → Leaves (unaltered (preview store n unit list) store) (Err r) store
   unfolding preview judge_left
   refused_left e = record { answer_is = ap (λ (o : Outcome LoadAnswer). judge_left o.answer o.bytes) (sym e); bytes_are = refl }
 

@@ -5,7 +5,6 @@ ghost use Rattle.calls.specs.Calls.{Leaves, unaltered};
 ghost use Rattle.replacement.specs.Replacement.{preview};
 
 use calls::JudgeAnswer;
-use opening::Opened;
 use replacing::{replaceable, swap_flow};
 use store::Store;
 
@@ -16,8 +15,8 @@ pub fn preview(store: &mut [u8], name: usize, unit: bool, rows: &[u8]) -> JudgeA
 {
     let mut set = [0u8; Store::MEMBERS];
     match replaceable(store, name, unit, rows, &mut set) {
-        Opened::Refused(refusal) => JudgeAnswer::Refused(refusal),
-        Opened::Rows(count) => {
+        Err(refusal) => Err(refusal),
+        Ok(count) => {
             swap_flow(store, name, &mut set);
             let answer = judging::judge_rows(&store[..Store::SIZE], count);
             swap_flow(store, name, &mut set);

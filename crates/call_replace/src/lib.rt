@@ -6,7 +6,6 @@ ghost use Rattle.replacement.specs.Replacement.{replace};
 
 use calls::LoadAnswer;
 use line_counts::store_counts;
-use opening::Opened;
 use replacing::{replaceable, swap_flow};
 use store::Store;
 
@@ -16,10 +15,10 @@ pub fn replace(store: &mut [u8], name: usize, unit: bool, rows: &[u8]) -> LoadAn
 {
     let mut set = [0u8; Store::MEMBERS];
     match replaceable(store, name, unit, rows, &mut set) {
-        Opened::Refused(refusal) => LoadAnswer::Refused(refusal),
-        Opened::Rows(count) => {
+        Err(refusal) => Err(refusal),
+        Ok(count) => {
             swap_flow(store, name, &mut set);
-            LoadAnswer::Loaded(store_counts(&store[..Store::SIZE], count))
+            Ok(store_counts(&store[..Store::SIZE], count))
         }
     }
 }

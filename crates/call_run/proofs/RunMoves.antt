@@ -1,4 +1,5 @@
 -- The run calls on records by value: what opening answers, then the changes of the threads that are named.
+use Rattle.std.specs.Prelude.{Ok, Err}
 use Prim.Native.Nat.{ℕ, zero, suc, ◌≤◌, ◌<◌}
 use native.Mathlib.Omega.{arith}
 use mathlib.Core.Bool.{true, false}
@@ -15,13 +16,13 @@ use Rattle.format.specs.Text.{Bytes}
 use Rattle.calls.specs.Calls.{opened}
 use Rattle.calls.specs.Layout.{store_size}
 use Rattle.store.specs.Rows.{store_program}
-use Rattle.opening.specs.declared.Opened.{Opened}
+use Rattle.opening.specs.Opening.{Opened}
 use Rattle.opening.specs.Opening.{OpenedIs}
 use Rattle.opening.proofs.Opening.{refused_is, opens_is}
 use Rattle.machine.specs.declared.ThreadRecord.{ThreadRecord}
 use Rattle.machine.specs.Machine.{Change, thread_at, change, meeting, Order, alone, together, changes}
 use Rattle.run_memory.specs.RunMemory.{in_use, memory_in, machine_in}
-use Rattle.run_calls.specs.declared.RunAnswer.{RunAnswer}
+use Rattle.run_calls.specs.RunCalls.{RunAnswer}
 use Rattle.run_calls.specs.RunCalls.{LeavesRun, too_short, store_opened, run_opened, begun_in, begin_with, begin_on, made, move_with, move_on}
 use Rattle.run_calls.proofs.Opened.{long_opened, long_told}
 use Rattle.thread_records.specs.Records.{no_record}
@@ -80,38 +81,38 @@ module _ (store run : Bytes) (lent : ℕ) (ts : List ThreadRecord) (o : Order) w
   abbrev fixed : Bytes
   fixed = take store_size store
 
-  pub move_refused : (r : Refusal) → RunOpenedIs (run_opened store run lent ts) fixed run ts (Opened.Refused r) → LeavesRun (move_on store run lent ts o) (RunAnswer.Refused r) run ts
+  pub move_refused : (r : Refusal) → RunOpenedIs (run_opened store run lent ts) fixed run ts (Err r) → LeavesRun (move_on store run lent ts o) (Err r) run ts
   unfolding move_on move_with
   move_refused r h = go (run_opened store run lent ts) h
     where
-      go : (x : Result Program) → RunOpenedIs x fixed run ts (Opened.Refused r) → LeavesRun (move_with run ts o x) (RunAnswer.Refused r) run ts
-      go (refused q) h = let e : r ≡ q = cc in record { answer_is = ap RunAnswer.Refused e; run_is = refl; threads_are = refl }
+      go : (x : Result Program) → RunOpenedIs x fixed run ts (Err r) → LeavesRun (move_with run ts o x) (Err r) run ts
+      go (refused q) h = let e : r ≡ q = cc in record { answer_is = ap Err e; run_is = refl; threads_are = refl }
       go (accepted p) (n, e, k) = let z : ◌≡◌ {A = ℕ} 0 1 = cc in absurd (omega arith)
 
-  pub move_opened : (n : ℕ) {a : RunAnswer} {run' : Bytes} {ts' : List ThreadRecord} → RunOpenedIs (run_opened store run lent ts) fixed run ts (Opened.Rows n)
+  pub move_opened : (n : ℕ) {a : RunAnswer} {run' : Bytes} {ts' : List ThreadRecord} → RunOpenedIs (run_opened store run lent ts) fixed run ts (Ok n)
       → LeavesRun (made run ts (changes (store_program n fixed) (machine_in run ts) o)) a run' ts' → LeavesRun (move_on store run lent ts o) a run' ts'
   unfolding move_on move_with
   move_opened n {a} {run'} {ts'} h k = go (run_opened store run lent ts) h
     where
-      go : (x : Result Program) → RunOpenedIs x fixed run ts (Opened.Rows n) → LeavesRun (move_with run ts o x) a run' ts'
+      go : (x : Result Program) → RunOpenedIs x fixed run ts (Ok n) → LeavesRun (move_with run ts o x) a run' ts'
       go (refused q) h = let z : ◌≡◌ {A = ℕ} 0 1 = cc in absurd (omega arith)
       go (accepted p) (m, e, h) =
           let q : n ≡ m = cc in
           subst (λ (p : Program). LeavesRun (made run ts (changes p (machine_in run ts) o)) a run' ts') (ap (λ (n : ℕ). store_program n fixed) q ∙ sym h.program_is) k
 
 -- what is known of a run that opens
-pub opens_known : (store run : Bytes) (lent : ℕ) (ts : List ThreadRecord) (n : ℕ) → RunOpenedIs (run_opened store run lent ts) (take store_size store) run ts (Opened.Rows n)
+pub opens_known : (store run : Bytes) (lent : ℕ) (ts : List ThreadRecord) (n : ℕ) → RunOpenedIs (run_opened store run lent ts) (take store_size store) run ts (Ok n)
     → (p : Program) × RunOpens p (take store_size store) run ts n
 opens_known store run lent ts n h = go (run_opened store run lent ts) h
   where
-    go : (x : Result Program) → RunOpenedIs x (take store_size store) run ts (Opened.Rows n) → (p : Program) × RunOpens p (take store_size store) run ts n
+    go : (x : Result Program) → RunOpenedIs x (take store_size store) run ts (Ok n) → (p : Program) × RunOpens p (take store_size store) run ts n
     go (refused q) h = let z : ◌≡◌ {A = ℕ} 0 1 = cc in absurd (omega arith)
     go (accepted p) (m, e, h) = let q : m ≡ n = cc in (p, subst (λ (n : ℕ). RunOpens p (take store_size store) run ts n) q h)
 
 -- ---- beginning
 
 module _ (store run : Bytes) (lent : ℕ) (ts : List ThreadRecord) where
-  pub begin_short : too_short store run lent ≡ true → LeavesRun (begin_on store run lent ts) (RunAnswer.Refused (refusal StoreTooShort 0)) run ts
+  pub begin_short : too_short store run lent ≡ true → LeavesRun (begin_on store run lent ts) (Err (refusal StoreTooShort 0)) run ts
   unfolding begin_on store_opened begin_with
   begin_short e = rw e (record { answer_is = refl; run_is = refl; threads_are = refl })
 
@@ -120,16 +121,16 @@ module _ (store run : Bytes) (lent : ℕ) (ts : List ThreadRecord) where
     unfolding store_opened
     opens = rw (long, long_opened store (long_told store run lent long).store_long)
 
-    pub begin_refused : (r : Refusal) → OpenedIs (opened store) (take store_size store) (Opened.Refused r) → LeavesRun (begin_on store run lent ts) (RunAnswer.Refused r) run ts
+    pub begin_refused : (r : Refusal) → OpenedIs (opened store) (take store_size store) (Err r) → LeavesRun (begin_on store run lent ts) (Err r) run ts
     unfolding begin_on begin_with
     begin_refused r h = rw (opens, refused_is (take store_size store) (opened store) r h) (record { answer_is = refl; run_is = refl; threads_are = refl })
 
-    pub begin_opened : (n : ℕ) {a : RunAnswer} {run' : Bytes} {ts' : List ThreadRecord} → OpenedIs (opened store) (take store_size store) (Opened.Rows n) → LeavesRun (begun_in run ts) a run' ts' → LeavesRun (begin_on store run lent ts) a run' ts'
+    pub begin_opened : (n : ℕ) {a : RunAnswer} {run' : Bytes} {ts' : List ThreadRecord} → OpenedIs (opened store) (take store_size store) (Ok n) → LeavesRun (begun_in run ts) a run' ts' → LeavesRun (begin_on store run lent ts) a run' ts'
     unfolding begin_on begin_with
     begin_opened n h k = rw (opens, (opens_is (take store_size store) (opened store) n h).0) k
 
 -- nothing is found: 30
-pub none_leaves : (run : Bytes) (ts : List ThreadRecord) (q : Option (List (ℕ × Change))) → q ≡ none → LeavesRun (made run ts q) (RunAnswer.Refused (refusal MoveNotAllowed 0)) run ts
+pub none_leaves : (run : Bytes) (ts : List ThreadRecord) (q : Option (List (ℕ × Change))) → q ≡ none → LeavesRun (made run ts q) (Err (refusal MoveNotAllowed 0)) run ts
 none_leaves run ts q e = rw e (none_made run ts)
 
 pub leaves_same : (run : Bytes) (ts : List ThreadRecord) {q q' : Option (List (ℕ × Change))} {a : RunAnswer} {run' : Bytes} {ts' : List ThreadRecord} → q ≡ q' → LeavesRun (made run ts q) a run' ts' → LeavesRun (made run ts q') a run' ts'

@@ -11,8 +11,6 @@ use format::Reason;
 use machine::ThreadRecord;
 use meetings::meeting;
 use moves::{Moved, make_change, make_meeting, refuse};
-use opening::Opened;
-use run_calls::RunAnswer;
 use run_memory::{InUse, in_use, put_counts};
 use run_opening::{open_run, too_short};
 use store::Store;
@@ -39,7 +37,7 @@ fn begin_rows(run: &mut [u8], records: Records) -> Moved
         frame: 0,
     };
     Moved {
-        answer: RunAnswer::Threads(1),
+        answer: Ok(1),
         records: with_record(records, 0, first),
     }
 }
@@ -53,11 +51,11 @@ pub fn begin_run(store: &[u8], run: &mut [u8], records: Records) -> Moved
         return refuse(Reason::StoreTooShort, records);
     }
     match opening::open(store) {
-        Opened::Refused(refusal) => Moved {
-            answer: RunAnswer::Refused(refusal),
+        Err(refusal) => Moved {
+            answer: Err(refusal),
             records: records,
         },
-        Opened::Rows(_) => begin_rows(run, records),
+        Ok(_) => begin_rows(run, records),
     }
 }
 
@@ -109,11 +107,11 @@ pub fn move_thread(store: &[u8], run: &mut [u8], records: Records, thread: usize
     ensures { LeavesRun (move_on store.now run.old records.lent records.list (alone thread)) result.answer run.new result.records.list }
 {
     match open_run(store, run, records) {
-        Opened::Refused(refusal) => Moved {
-            answer: RunAnswer::Refused(refusal),
+        Err(refusal) => Moved {
+            answer: Err(refusal),
             records: records,
         },
-        Opened::Rows(rows) => move_rows(&store[..Store::SIZE], rows, run, records, thread),
+        Ok(rows) => move_rows(&store[..Store::SIZE], rows, run, records, thread),
     }
 }
 
@@ -128,11 +126,11 @@ pub fn meet_threads(
     ensures { LeavesRun (move_on store.now run.old records.lent records.list (together sender receiver)) result.answer run.new result.records.list }
 {
     match open_run(store, run, records) {
-        Opened::Refused(refusal) => Moved {
-            answer: RunAnswer::Refused(refusal),
+        Err(refusal) => Moved {
+            answer: Err(refusal),
             records: records,
         },
-        Opened::Rows(rows) => meet_rows(
+        Ok(rows) => meet_rows(
             &store[..Store::SIZE],
             rows,
             run,

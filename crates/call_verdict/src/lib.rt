@@ -4,7 +4,6 @@
 ghost use Rattle.calls.specs.Calls.{Leaves, verdict, unaltered};
 
 use calls::VerdictAnswer;
-use opening::Opened;
 use store::Store;
 
 // The verdict of a channel: its five words, or refusals 20 to 22, 24 and 10.
@@ -12,7 +11,7 @@ pub fn verdict(store: &[u8], channel: usize) -> VerdictAnswer
     ensures { Leaves (unaltered (verdict store.entry.now channel) store.entry.now) result store.exit.now }
 {
     match opening::open(store) {
-        Opened::Refused(refusal) => judge_answers::no_verdict(refusal),
-        Opened::Rows(rows) => judging::verdict_rows(&store[..Store::SIZE], rows, channel),
+        Err(refusal) => judge_answers::no_verdict(refusal),
+        Ok(rows) => judging::verdict_rows(&store[..Store::SIZE], rows, channel),
     }
 }

@@ -1,4 +1,5 @@
 -- In a store that opens only bound names have flow sets, and only chan rows comm sets.
+use Rattle.std.specs.Prelude.{Ok}
 use Prim.Native.Nat.{ℕ, ◌+◌, ◌≤◌}
 use native.Mathlib.Omega.{arith}
 use mathlib.Core.Bool.{Bool, true, So}
@@ -24,7 +25,7 @@ use Rattle.store.specs.Rows.{store_program}
 use Rattle.store.proofs.Document.{rows_decode}
 use Rattle.seen.specs.Flags.{flag, Tells}
 use Rattle.seen.specs.Seen.{Marks}
-use Rattle.opening.specs.declared.Opened.{Opened}
+use Rattle.opening.specs.Opening.{Opened}
 use Rattle.opening.specs.Opening.{OpenedIs}
 use Rattle.opening.proofs.Opening.{opens_is}
 use Rattle.write_sets.specs.Keys.{Keyed, StoreKeys}
@@ -61,7 +62,7 @@ unfolding comm_allowed
 comm_keys p [] nil = nil
 comm_keys p (e ∷ es) (h & hs) = and_left (chan_row p e.key) _ h & comm_keys p es hs
 
-module _ (store : Bytes) (n : ℕ) (h : OpenedIs (opened store) (take store_size store) (Opened.Rows n)) where
+module _ (store : Bytes) (n : ℕ) (h : OpenedIs (opened store) (take store_size store) (Ok n)) where
   abbrev fixed : Bytes
   fixed = take store_size store
 

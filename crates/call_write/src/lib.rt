@@ -4,8 +4,7 @@
 ghost use Rattle.calls.specs.Calls.{Leaves, write};
 
 use calls::WriteAnswer;
-use format::{Reason, Refusal};
-use opening::Opened;
+use format::Reason;
 use store::Store;
 
 // Writes the text of a store into the lent output: its length, or refusals 20 to 23. In a store that opens only bound names and chan rows have sets.
@@ -13,20 +12,17 @@ pub fn write(store: &[u8], out: &mut [u8]) -> WriteAnswer
     ensures { Leaves (write store.now out.old) result out.new }
 {
     match opening::open(store) {
-        Opened::Refused(refusal) => WriteAnswer::Refused(refusal),
-        Opened::Rows(rows) => {
+        Err(refusal) => Err(refusal),
+        Ok(rows) => {
             let fixed = &store[..Store::SIZE];
             let names = binders::bound(fixed, rows);
             let chans = allowed_lines::chan_rows(fixed, rows);
             let length = writing::document_length(store, rows, &names, &chans);
             if out.len() < length {
-                return WriteAnswer::Refused(Refusal {
-                    reason: Reason::OutputTooShort,
-                    line: 0,
-                });
+                return Err(Reason::OutputTooShort.at(0));
             }
             writing::put_document(out, store, rows, &names, &chans);
-            WriteAnswer::Written(length)
+            Ok(length)
         }
     }
 }

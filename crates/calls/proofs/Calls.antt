@@ -1,4 +1,5 @@
 -- The proofs of the demands (Demands.antt) from the theorems about files, the store, judge and runs.
+use Rattle.std.specs.Prelude.{Ok, Err}
 use Prim.Native.Nat.{ℕ, ◌≤◌, ◌<◌}
 use mathlib.Core.Bool.{Bool, true, false, So}
 use mathlib.Core.List.{List, ◌++◌, map}
@@ -31,10 +32,9 @@ use Rattle.format.specs.Check.{check_any, check}
 use Rattle.format.proofs.Files.{check_any_iff, check_iff}
 use Rattle.format.proofs.Structure.{orderly_of}
 use Rattle.calls.specs.declared.Counts.{Counts}
-use Rattle.calls.specs.declared.LoadAnswer.{LoadAnswer}
-use Rattle.calls.specs.declared.JudgeAnswer.{JudgeAnswer}
-use Rattle.calls.specs.declared.WriteAnswer.{WriteAnswer}
-use Rattle.calls.specs.declared.VerdictStatus.{VerdictStatus}
+use Rattle.calls.specs.Answers.{LoadAnswer}
+use Rattle.calls.specs.Answers.{JudgeAnswer}
+use Rattle.calls.specs.Answers.{WriteAnswer}
 use Rattle.calls.specs.Layout.{store_size, encode, decode}
 use Rattle.calls.specs.Judging.{verdict_words, flow_table, comm_table, word_holds, WordHolds, reaches, failing_row, after10, judge_document, verdict_document}
 use Rattle.calls.specs.Calls.{Outcome, unsound, is_empty, opened_fixed, opened, counts, refilled, loaded, stored, load, judge_answered, and_then, judge, verdict_of, verdict_given, verdict, written, write}
@@ -51,12 +51,12 @@ load_long file store l = rw (le-ltb (length store) store_size l, load)
 
 -- ---- refused calls
 
-pub load_refused : (file store : Bytes) (r : Refusal) → (load file store).answer ≡ LoadAnswer.Refused r → store_size ≤ length store
+pub load_refused : (file store : Bytes) (r : Refusal) → (load file store).answer ≡ Err r → store_size ≤ length store
     → (load file store).bytes ≡ replicate store_size 0 ++ drop store_size store
 load_refused file store r e l =
     ap (λ (o : Outcome LoadAnswer). o.bytes) (load_long file store l) ∙ go (check file) (ap (λ (o : Outcome LoadAnswer). o.answer) (sym (load_long file store l)) ∙ e)
   where
-    go : (x : Result Document) → (loaded store x).answer ≡ LoadAnswer.Refused r → (loaded store x).bytes ≡ replicate store_size 0 ++ drop store_size store
+    go : (x : Result Document) → (loaded store x).answer ≡ Err r → (loaded store x).bytes ≡ replicate store_size 0 ++ drop store_size store
     go (refused q) h = unfold loaded refilled in refl
     go (accepted d) h = let z : ◌≡◌ {A = ℕ} 0 1 = unfold loaded in cc in absurd (omega arith)
 
@@ -64,48 +64,48 @@ pub load_too_short : (file store : Bytes) → length store < store_size → (loa
 unfolding load
 load_too_short file store l = rw (lt-ltb (length store) store_size l, load)
 
-pub write_refused : (store out : Bytes) (r : Refusal) → (write store out).answer ≡ WriteAnswer.Refused r → (write store out).bytes ≡ out
+pub write_refused : (store out : Bytes) (r : Refusal) → (write store out).answer ≡ Err r → (write store out).bytes ≡ out
 unfolding write
 write_refused store out r e = go (and_then (opened store) λ d. accepted (document_text d)) e
   where
     fits : (text : Bytes) (t : Bool) → ◌≡◌ {A = WriteAnswer} (elim t as (λ t. Outcome WriteAnswer) [
-      | true ↦ record { answer = WriteAnswer.Refused (refusal OutputTooShort 0); bytes = out }
-      | false ↦ record { answer = WriteAnswer.Written (length text); bytes = text ++ drop (length text) out }
-    ]).answer (WriteAnswer.Refused r) → ◌≡◌ {A = Bytes} (elim t as (λ t. Outcome WriteAnswer) [
-      | true ↦ record { answer = WriteAnswer.Refused (refusal OutputTooShort 0); bytes = out }
-      | false ↦ record { answer = WriteAnswer.Written (length text); bytes = text ++ drop (length text) out }
+      | true ↦ record { answer = Err (refusal OutputTooShort 0); bytes = out }
+      | false ↦ record { answer = Ok (length text); bytes = text ++ drop (length text) out }
+    ]).answer (Err r) → ◌≡◌ {A = Bytes} (elim t as (λ t. Outcome WriteAnswer) [
+      | true ↦ record { answer = Err (refusal OutputTooShort 0); bytes = out }
+      | false ↦ record { answer = Ok (length text); bytes = text ++ drop (length text) out }
     ]).bytes out
     fits text true h = refl
     fits text false h = let z : ◌≡◌ {A = ℕ} 0 1 = cc in absurd (omega arith)
 
-    go : (x : Result Bytes) → (written out x).answer ≡ WriteAnswer.Refused r → (written out x).bytes ≡ out
+    go : (x : Result Bytes) → (written out x).answer ≡ Err r → (written out x).bytes ≡ out
     go (refused q) h = unfold written in refl
     go (accepted text) h = unfold written in fits text (ltb (length out) (length text)) h
 
 -- ---- what load takes and leaves
 
 pub load_takes : (file store : Bytes) → store_size ≤ length store → (c : Counts)
-    → ((load file store).answer ≡ LoadAnswer.Loaded c) ↔ ((d : Document) × (file ≡ document_text d) × So (well_formed d) × (length file ≤ byte_limit) × (c ≡ counts d))
+    → ((load file store).answer ≡ Ok c) ↔ ((d : Document) × (file ≡ document_text d) × So (well_formed d) × (length file ≤ byte_limit) × (c ≡ counts d))
 unfolding loaded
 load_takes file store l c = (
   λ e. go (check file) refl (ap (λ (o : Outcome LoadAnswer). o.answer) (sym (load_long file store l)) ∙ e),
   λ (d, e, w, s, q). ap (λ (o : Outcome LoadAnswer). o.answer) (load_long file store l) ∙ rw ((check_iff file d).1 (e, w, s), q),
 )
   where
-    go : (x : Result Document) → check file ≡ x → (loaded store x).answer ≡ LoadAnswer.Loaded c → (d : Document) × (file ≡ document_text d) × So (well_formed d) × (length file ≤ byte_limit)
+    go : (x : Result Document) → check file ≡ x → (loaded store x).answer ≡ Ok c → (d : Document) × (file ≡ document_text d) × So (well_formed d) × (length file ≤ byte_limit)
         × (c ≡ counts d)
     go (refused r) q h = let z : ◌≡◌ {A = ℕ} 0 1 = cc in absurd (omega arith)
     go (accepted d) q h = let (e, w, s) = (check_iff file d).0 q in (d, e, w, s, let k : c ≡ counts d = cc in k)
 
 -- load does not take a file into a store that is too short
-long_enough : (file store : Bytes) (c : Counts) → (load file store).answer ≡ LoadAnswer.Loaded c → store_size ≤ length store
+long_enough : (file store : Bytes) (c : Counts) → (load file store).answer ≡ Ok c → store_size ≤ length store
 unfolding load
 long_enough file store c e = go (ltb (length store) store_size) refl e
   where
     go : (t : Bool) → ltb (length store) store_size ≡ t → ◌≡◌ {A = LoadAnswer} (elim t as (λ t. Outcome LoadAnswer) [
-      | true ↦ record { answer = LoadAnswer.Refused (refusal StoreTooShort 0); bytes = store }
+      | true ↦ record { answer = Err (refusal StoreTooShort 0); bytes = store }
       | false ↦ loaded store (check file)
-    ]).answer (LoadAnswer.Loaded c) → store_size ≤ length store
+    ]).answer (Ok c) → store_size ≤ length store
     go true q h = let z : ◌≡◌ {A = ℕ} 0 1 = cc in absurd (omega arith)
     go false q h = ltb-false (length store) store_size q
 
@@ -115,7 +115,7 @@ unfolding loaded refilled
 load_keeps d w s store l = ap (λ (o : Outcome LoadAnswer). o.bytes) (load_long (document_text d) store l) ∙ rw ((check_iff (document_text d) d).1 (refl, w, s))
 
 -- the document that an accepted load leaves in the store
-pub loaded_is : (file store : Bytes) (c : Counts) → (load file store).answer ≡ LoadAnswer.Loaded c
+pub loaded_is : (file store : Bytes) (c : Counts) → (load file store).answer ≡ Ok c
     → (d : Document) × (file ≡ document_text d) × So (well_formed d) × (length file ≤ byte_limit) × (c ≡ counts d) × ((load file store).bytes ≡ encode d ++ drop store_size store)
 loaded_is file store c e =
     let l = long_enough file store c e in
@@ -133,11 +133,11 @@ opened_loaded d w rest =
 -- ---- a call that leaves another document in the store
 
 module _ (store : Bytes) where
-  pub stored_refused : (r : Refusal) → stored store (refused r) ≡ record { answer = LoadAnswer.Refused r; bytes = store }
+  pub stored_refused : (r : Refusal) → stored store (refused r) ≡ record { answer = Err r; bytes = store }
   unfolding stored
   stored_refused r = refl
 
-  pub stored_is : (d : Document) → stored store (accepted d) ≡ record { answer = LoadAnswer.Loaded (counts d); bytes = encode d ++ drop store_size store }
+  pub stored_is : (d : Document) → stored store (accepted d) ≡ record { answer = Ok (counts d); bytes = encode d ++ drop store_size store }
   unfolding stored loaded refilled
   stored_is d = refl
 
@@ -182,7 +182,7 @@ sound_iff fixed = (
 
 -- ---- write and load
 
-written_accepted : (out text : Bytes) → length text ≤ length out → ((written out (accepted text)).answer ≡ WriteAnswer.Written (length text))
+written_accepted : (out text : Bytes) → length text ≤ length out → ((written out (accepted text)).answer ≡ Ok (length text))
     × ((written out (accepted text)).bytes ≡ text ++ drop (length text) out)
 unfolding written
 written_accepted out text l = rw (le-ltb (length out) (length text) l, written) (refl, refl)
@@ -191,33 +191,33 @@ write-opened : (store out : Bytes) (d : Document) → opened store ≡ accepted 
 unfolding write and_then
 write-opened store out d e = rw e
 
-pub write-load : (file store out : Bytes) (c : Counts) → (load file store).answer ≡ LoadAnswer.Loaded c → length file ≤ length out
-    → ((write (load file store).bytes out).answer ≡ WriteAnswer.Written (length file)) × ((write (load file store).bytes out).bytes ≡ file ++ drop (length file) out)
+pub write-load : (file store out : Bytes) (c : Counts) → (load file store).answer ≡ Ok c → length file ≤ length out
+    → ((write (load file store).bytes out).answer ≡ Ok (length file)) × ((write (load file store).bytes out).bytes ≡ file ++ drop (length file) out)
 write-load file store out c e l =
     let (d, q, w, s, k, m) = loaded_is file store c e in
     let o : opened (load file store).bytes ≡ accepted d = ap opened m ∙ opened_loaded d w (drop store_size store) in
     let r = write-opened (load file store).bytes out d o in
     let (x, y) = written_accepted out (document_text d) (subst (λ (f : Bytes). length f ≤ length out) q l) in (
-      ap (λ (o : Outcome WriteAnswer). o.answer) r ∙ x ∙ ap (λ (f : Bytes). WriteAnswer.Written (length f)) (sym q),
+      ap (λ (o : Outcome WriteAnswer). o.answer) r ∙ x ∙ ap (λ (f : Bytes). Ok (length f)) (sym q),
       ap (λ (o : Outcome WriteAnswer). o.bytes) r ∙ y ∙ ap (λ (f : Bytes). f ++ drop (length f) out) (sym q),
     )
 
 -- what an accepted write wrote
-wrote : (out text : Bytes) (n : ℕ) → (written out (accepted text)).answer ≡ WriteAnswer.Written n → (n ≡ length text) × (take n (written out (accepted text)).bytes ≡ text)
+wrote : (out text : Bytes) (n : ℕ) → (written out (accepted text)).answer ≡ Ok n → (n ≡ length text) × (take n (written out (accepted text)).bytes ≡ text)
 unfolding written
 wrote out text n e = go (ltb (length out) (length text)) refl e
   where
     go : (t : Bool) → ltb (length out) (length text) ≡ t → ◌≡◌ {A = WriteAnswer} (elim t as (λ t. Outcome WriteAnswer) [
-      | true ↦ record { answer = WriteAnswer.Refused (refusal OutputTooShort 0); bytes = out }
-      | false ↦ record { answer = WriteAnswer.Written (length text); bytes = text ++ drop (length text) out }
-    ]).answer (WriteAnswer.Written n) → (n ≡ length text) × (take n (written out (accepted text)).bytes ≡ text)
+      | true ↦ record { answer = Err (refusal OutputTooShort 0); bytes = out }
+      | false ↦ record { answer = Ok (length text); bytes = text ++ drop (length text) out }
+    ]).answer (Ok n) → (n ≡ length text) × (take n (written out (accepted text)).bytes ≡ text)
     go true q h = let z : ◌≡◌ {A = ℕ} 0 1 = cc in absurd (omega arith)
     go false q h =
         let m : n ≡ length text = cc in
         let (x, y) = written_accepted out text (ltb-false (length out) (length text) q) in
         (m, ap (take n) y ∙ take_at text (drop (length text) out) n (sym m))
 
-pub load-write : (store out other : Bytes) (n : ℕ) → (write store out).answer ≡ WriteAnswer.Written n → n ≤ byte_limit → store_size ≤ length other
+pub load-write : (store out other : Bytes) (n : ℕ) → (write store out).answer ≡ Ok n → n ≤ byte_limit → store_size ≤ length other
     → (load (take n (write store out).bytes) other).bytes ≡ take store_size store ++ drop store_size other
 unfolding write and_then written
 load-write store out other n e s l = from_opened (opened store) refl
@@ -225,7 +225,7 @@ load-write store out other n e s l = from_opened (opened store) refl
     from_opened : (x : Result Document) → opened store ≡ x → (load (take n (write store out).bytes) other).bytes ≡ take store_size store ++ drop store_size other
     from_opened (refused r) q =
         let h : (written out (and_then (refused r) λ d. accepted (document_text d))).answer
-        ≡ WriteAnswer.Written n = ap (λ (x : Result Document). (written out (and_then x λ d. accepted (document_text d))).answer) (sym q) ∙ e in
+        ≡ Ok n = ap (λ (x : Result Document). (written out (and_then x λ d. accepted (document_text d))).answer) (sym q) ∙ e in
         let z : ◌≡◌ {A = ℕ} 0 1 = cc in
         absurd (omega arith)
     from_opened (accepted d) q =
@@ -242,13 +242,13 @@ pub judge-opened : (store : Bytes) (d : Document) → opened store ≡ accepted 
 unfolding judge and_then
 judge-opened store d e = rw e
 
-pub judged_iff : (r : Result ℕ) (n : ℕ) → (judge_answered r ≡ JudgeAnswer.Accepted n) ↔ (r ≡ accepted n)
+pub judged_iff : (r : Result ℕ) (n : ℕ) → (judge_answered r ≡ Ok n) ↔ (r ≡ accepted n)
 unfolding judge_answered
 judged_iff (refused r) n = (λ e. let z : ◌≡◌ {A = ℕ} 0 1 = cc in absurd (omega arith), λ e. let z : ◌≡◌ {A = ℕ} 0 1 = cc in absurd (omega arith))
-judged_iff (accepted m) n = (λ e. let q : m ≡ n = cc in ap accepted q, λ e. let q : m ≡ n = cc in ap JudgeAnswer.Accepted q)
+judged_iff (accepted m) n = (λ e. let q : m ≡ n = cc in ap accepted q, λ e. let q : m ≡ n = cc in ap Ok q)
 
 pub judge_accepts : (store : Bytes) (d : Document) → opened store ≡ accepted d → (n : ℕ)
-    → (judge store ≡ JudgeAnswer.Accepted n) ↔ (KeepsAll d.rows (flow_table d) (comm_table d) × Each (λ (k : Claim). WordHolds d k.channel k.word) d.claims × (n ≡ length d.claims))
+    → (judge store ≡ Ok n) ↔ (KeepsAll d.rows (flow_table d) (comm_table d) × Each (λ (k : Claim). WordHolds d k.channel k.word) d.claims × (n ≡ length d.claims))
 judge_accepts store d e n =
     let j = judge-opened store d e in
     let (there, back) = accepts_iff d (opened_is store d e).well n in
@@ -257,7 +257,7 @@ judge_accepts store d e n =
 -- ---- verdict
 
 pub verdict-words : (store : Bytes) (d : Document) (c : ℕ) → opened store ≡ accepted d → So (chan_row d.rows c) → KeepsAll d.rows (flow_table d) (comm_table d)
-    → verdict store c ≡ record { status = VerdictStatus.Given; words = map (word_holds d (reaches d) c) verdict_words }
+    → verdict store c ≡ record { status = Ok tt; words = map (word_holds d (reaches d) c) verdict_words }
 unfolding verdict and_then verdict_of verdict_given verdict_document after10 RowKeeps
 verdict-words store d c e chan keeps = rw (e, chan, verdict_of, no_row, after10)
   where
@@ -275,7 +275,7 @@ histories_fit d w keeps claims k member name chan steps maker =
     claims_hold d.rows (flow_table d) (comm_table d) (rows_well d w).0 ((keeps_iff d.rows (flow_table d) (comm_table d)).1 keeps) k.word name k.channel chan
     (each_at claims member) steps maker
 
-pub sound : (file store : Bytes) (c : Counts) (n : ℕ) → (load file store).answer ≡ LoadAnswer.Loaded c → judge (load file store).bytes ≡ JudgeAnswer.Accepted n
+pub sound : (file store : Bytes) (c : Counts) (n : ℕ) → (load file store).answer ≡ Ok c → judge (load file store).bytes ≡ Ok n
     → (d : Document) × (file ≡ document_text d) × So (well_formed d)
     × ((k : Claim) → Member k d.claims → (name : ℕ) → chan_at d.rows k.channel ≡ some name
     → (steps : List Step) (maker : Path) → HistoryFits d.rows (run d.rows steps) (made maker name) k.word)

@@ -1,4 +1,5 @@
 -- Judge and verdict of any store are as specs/Exact says: what opening it finds, then what the document's flow rules and claims say.
+use Rattle.std.specs.Prelude.{Ok, Err}
 use Prim.Native.Nat.{ℕ, zero, suc}
 use native.Mathlib.Omega.{arith}
 use mathlib.Core.Bool.{Bool, true, false, So, false≢true}
@@ -26,8 +27,8 @@ use Rattle.format.specs.Structure.{row_line}
 use Rattle.format.specs.WellFormed.{well_formed}
 use Rattle.format.proofs.Files.{check_any_iff}
 use Rattle.calls.specs.declared.Counts.{Counts}
-use Rattle.calls.specs.declared.LoadAnswer.{LoadAnswer}
-use Rattle.calls.specs.declared.JudgeAnswer.{JudgeAnswer}
+use Rattle.calls.specs.Answers.{LoadAnswer}
+use Rattle.calls.specs.Answers.{JudgeAnswer}
 use Rattle.calls.specs.Answers.{turned_back, answered, refusal_answer, judge_answer, yes_or_no, status_answer, verdict_answer}
 use Rattle.calls.specs.Layout.{store_size, encode, decode}
 use Rattle.calls.specs.Judging.{verdict_words, word_holds, WordHolds, reaches, failing_row, after10, judge_document, verdict_document}
@@ -58,10 +59,10 @@ not_zeros n bs e z = false≢true (sym e ∙ ap is_empty z ∙ zeros_empty n)
 
 -- ---- an answer's values tell its case
 
-pub judge_accepted : (a : JudgeAnswer) (n : ℕ) → judge_answer a ≡ answered (n ∷ []) → a ≡ JudgeAnswer.Accepted n
+pub judge_accepted : (a : JudgeAnswer) (n : ℕ) → judge_answer a ≡ answered (n ∷ []) → a ≡ Ok n
 unfolding judge_answer refusal_answer
-judge_accepted (JudgeAnswer.Accepted m) n e = let q : m ≡ n = cc in ap JudgeAnswer.Accepted q
-judge_accepted (JudgeAnswer.Refused r) n e = let z : ◌≡◌ {A = ℕ} 0 1 = cc in absurd (omega arith)
+judge_accepted (Ok m) n e = let q : m ≡ n = cc in ap Ok q
+judge_accepted (Err r) n e = let z : ◌≡◌ {A = ℕ} 0 1 = cc in absurd (omega arith)
 
 -- ---- a store that holds a document opens to it, and no other store opens
 
@@ -143,10 +144,10 @@ module _ (store : Bytes) where
           let j = judge_accepted (judge store) n e in
           go (opened store) view (judge_opened_or j)
         where
-          judge_opened_or : judge store ≡ JudgeAnswer.Accepted n → judge_answered (and_then (opened store) judge_document) ≡ JudgeAnswer.Accepted n
+          judge_opened_or : judge store ≡ Ok n → judge_answered (and_then (opened store) judge_document) ≡ Ok n
           judge_opened_or j = unfold judge in j
 
-          go : (x : Result Document) → View x → judge_answered (and_then x judge_document) ≡ JudgeAnswer.Accepted n
+          go : (x : Result Document) → View x → judge_answered (and_then x judge_document) ≡ Ok n
               → (d : Document) × StoreHolds store d × RulesHold d × ClaimsHold d × (n ≡ length d.claims)
           go x (shut c) j = let z : ◌≡◌ {A = ℕ} 0 1 = unfold and_then judge_answered in cc in absurd (omega arith)
           go x (opens d h) j =
@@ -193,8 +194,8 @@ module _ (store : Bytes) where
 
 -- ---- judge of the store that load left of a file
 
-pub judge_loaded : (file store : Bytes) (c : Counts) → (load file store).answer ≡ LoadAnswer.Loaded c → (n : ℕ)
-    → (judge (load file store).bytes ≡ JudgeAnswer.Accepted n)
+pub judge_loaded : (file store : Bytes) (c : Counts) → (load file store).answer ≡ Ok c → (n : ℕ)
+    → (judge (load file store).bytes ≡ Ok n)
     ↔ ((d : Document) × (file ≡ document_text d) × So (well_formed d) × RulesHold d × ClaimsHold d × (n ≡ length d.claims))
 judge_loaded file store c e n =
     let (d, q, w, s, k, m) = loaded_is file store c e in

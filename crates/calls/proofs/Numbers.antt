@@ -1,4 +1,5 @@
 -- The demands over document 01's numbers and values, from those over the answers: an answer's number or values tell its case.
+use Rattle.std.specs.Prelude.{Ok, Err}
 use Prim.Native.Nat.{ℕ, ◌≤◌, ◌<◌}
 use native.Mathlib.Omega.{arith}
 use mathlib.Core.Bool.{So}
@@ -20,8 +21,8 @@ use Rattle.format.specs.Document.{Claim, Document}
 use Rattle.format.specs.Print.{document_text}
 use Rattle.format.specs.WellFormed.{well_formed}
 use Rattle.calls.specs.declared.Counts.{Counts}
-use Rattle.calls.specs.declared.LoadAnswer.{LoadAnswer}
-use Rattle.calls.specs.declared.WriteAnswer.{WriteAnswer}
+use Rattle.calls.specs.Answers.{LoadAnswer}
+use Rattle.calls.specs.Answers.{WriteAnswer}
 use Rattle.calls.specs.Answers.{turned_back, answered, refusal_answer, load_answer, judge_answer, write_answer}
 use Rattle.calls.specs.Layout.{store_size}
 use Rattle.calls.specs.Calls.{counts, load, judge, write}
@@ -39,25 +40,25 @@ line_counts d = length d.rows ∷ length d.flows ∷ length d.comms ∷ length d
 abbrev count_list : Counts → List ℕ
 count_list c = c.rows ∷ c.flows ∷ c.comms ∷ c.claims ∷ []
 
-load_values : (a : LoadAnswer) (ns : List ℕ) → load_answer a ≡ answered ns → (c : Counts) × (a ≡ LoadAnswer.Loaded c) × (count_list c ≡ ns)
+load_values : (a : LoadAnswer) (ns : List ℕ) → load_answer a ≡ answered ns → (c : Counts) × (a ≡ Ok c) × (count_list c ≡ ns)
 unfolding load_answer refusal_answer
-load_values (LoadAnswer.Loaded c) ns e = (c, refl, let q : count_list c ≡ ns = cc in q)
-load_values (LoadAnswer.Refused r) ns e = let z : ◌≡◌ {A = ℕ} 0 1 = cc in absurd (omega arith)
+load_values (Ok c) ns e = (c, refl, let q : count_list c ≡ ns = cc in q)
+load_values (Err r) ns e = let z : ◌≡◌ {A = ℕ} 0 1 = cc in absurd (omega arith)
 
-load_number : (a : LoadAnswer) (n line : ℕ) → load_answer a ≡ turned_back n line → (r : Refusal) × (a ≡ LoadAnswer.Refused r)
+load_number : (a : LoadAnswer) (n line : ℕ) → load_answer a ≡ turned_back n line → (r : Refusal) × (a ≡ Err r)
 unfolding load_answer refusal_answer
-load_number (LoadAnswer.Loaded c) n line e = let z : ◌≡◌ {A = ℕ} 0 1 = cc in absurd (omega arith)
-load_number (LoadAnswer.Refused r) n line e = (r, refl)
+load_number (Ok c) n line e = let z : ◌≡◌ {A = ℕ} 0 1 = cc in absurd (omega arith)
+load_number (Err r) n line e = (r, refl)
 
-write_value : (a : WriteAnswer) (n : ℕ) → write_answer a ≡ answered (n ∷ []) → a ≡ WriteAnswer.Written n
+write_value : (a : WriteAnswer) (n : ℕ) → write_answer a ≡ answered (n ∷ []) → a ≡ Ok n
 unfolding write_answer refusal_answer
-write_value (WriteAnswer.Written m) n e = let q : m ≡ n = cc in ap WriteAnswer.Written q
-write_value (WriteAnswer.Refused r) n e = let z : ◌≡◌ {A = ℕ} 0 1 = cc in absurd (omega arith)
+write_value (Ok m) n e = let q : m ≡ n = cc in ap Ok q
+write_value (Err r) n e = let z : ◌≡◌ {A = ℕ} 0 1 = cc in absurd (omega arith)
 
-write_number : (a : WriteAnswer) (n line : ℕ) → write_answer a ≡ turned_back n line → (r : Refusal) × (a ≡ WriteAnswer.Refused r)
+write_number : (a : WriteAnswer) (n line : ℕ) → write_answer a ≡ turned_back n line → (r : Refusal) × (a ≡ Err r)
 unfolding write_answer refusal_answer
-write_number (WriteAnswer.Written m) n line e = let z : ◌≡◌ {A = ℕ} 0 1 = cc in absurd (omega arith)
-write_number (WriteAnswer.Refused r) n line e = (r, refl)
+write_number (Ok m) n line e = let z : ◌≡◌ {A = ℕ} 0 1 = cc in absurd (omega arith)
+write_number (Err r) n line e = (r, refl)
 
 -- ---- the demands
 

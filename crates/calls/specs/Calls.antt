@@ -4,6 +4,7 @@
 --   verdict  `opened`, then Judging.verdict_document        (20, 21, 22, 24; 10)
 --   write    `opened`, then Print.document_text of format   (20, 21, 22, 23)
 -- The contract of each public function is equality with its definition here; by `Leaves`, for the answer and the lent bytes.
+use Rattle.std.specs.Prelude.{Ok, Err}
 use Rattle.std.specs.Prelude.{ℕ, Bool, true, false, not, ◌&&◌, List, [], ◌∷◌, ◌++◌, ◌≡◌, length, take, drop, replicate, ltb, eqb}
 use Rattle.program.specs.Each.{every}
 use Rattle.program.specs.Program.{chan_row}
@@ -16,10 +17,9 @@ use Rattle.format.specs.Print.{document_text}
 use Rattle.format.specs.WellFormed.{well_formed}
 use Rattle.format.specs.Check.{check}
 use Rattle.calls.specs.declared.Counts.{Counts}
-use Rattle.calls.specs.declared.LoadAnswer.{LoadAnswer}
-use Rattle.calls.specs.declared.JudgeAnswer.{JudgeAnswer}
-use Rattle.calls.specs.declared.WriteAnswer.{WriteAnswer}
-use Rattle.calls.specs.declared.VerdictStatus.{VerdictStatus}
+use Rattle.calls.specs.Answers.{LoadAnswer}
+use Rattle.calls.specs.Answers.{JudgeAnswer}
+use Rattle.calls.specs.Answers.{WriteAnswer}
 use Rattle.calls.specs.declared.VerdictAnswer.{VerdictAnswer}
 use Rattle.calls.specs.Layout.{store_size, encode, decode, same}
 use Rattle.calls.specs.Judging.{judge_document, verdict_document}
@@ -67,25 +67,25 @@ refilled store fixed = fixed ++ drop store_size store
 
 -- "1 to 9 zero the store, which is then empty"
 unfoldable pub loaded : Bytes → Result Document → Outcome LoadAnswer
-loaded store (refused r) = record { answer = LoadAnswer.Refused r; bytes = refilled store (replicate store_size 0) }
-loaded store (accepted d) = record { answer = LoadAnswer.Loaded (counts d); bytes = refilled store (encode d) }
+loaded store (refused r) = record { answer = Err r; bytes = refilled store (replicate store_size 0) }
+loaded store (accepted d) = record { answer = Ok (counts d); bytes = refilled store (encode d) }
 
 -- what a call that alters a loaded document answers and leaves: what load would on the outcome's text, "were there no length limit" (document 02, No. 1); refused, it alters nothing
 unfoldable pub stored : Bytes → Result Document → Outcome LoadAnswer
-stored store (refused r) = record { answer = LoadAnswer.Refused r; bytes = store }
+stored store (refused r) = record { answer = Err r; bytes = store }
 stored store (accepted d) = loaded store (accepted d)
 
 -- "load never gives 21 or 22"
 unfoldable pub load : Bytes → Bytes → Outcome LoadAnswer
 load file store =
     elim (ltb (length store) store_size) [
-      | true ↦ record { answer = LoadAnswer.Refused (refusal StoreTooShort 0); bytes = store }
+      | true ↦ record { answer = Err (refusal StoreTooShort 0); bytes = store }
       | false ↦ loaded store (check file)
     ]
 
 unfoldable pub judge_answered : Result ℕ → JudgeAnswer
-judge_answered (refused r) = JudgeAnswer.Refused r
-judge_answered (accepted n) = JudgeAnswer.Accepted n
+judge_answered (refused r) = Err r
+judge_answered (accepted n) = Ok n
 
 -- go on with the document, or pass the refusal on
 unfoldable pub and_then : {A B : Type 0} → Result A → (A → Result B) → Result B
@@ -101,22 +101,22 @@ verdict_of c d = elim (chan_row d.rows c) [ true ↦ verdict_document d c | fals
 
 -- no word holds where the call is refused
 abbrev pub no_verdict : Refusal → VerdictAnswer
-no_verdict r = record { status = VerdictStatus.Refused r; words = false ∷ false ∷ false ∷ false ∷ false ∷ [] }
+no_verdict r = record { status = Err r; words = false ∷ false ∷ false ∷ false ∷ false ∷ [] }
 
 unfoldable pub verdict_given : Result (List Bool) → VerdictAnswer
 verdict_given (refused r) = no_verdict r
-verdict_given (accepted bs) = record { status = VerdictStatus.Given; words = bs }
+verdict_given (accepted bs) = record { status = Ok tt; words = bs }
 
 unfoldable pub verdict : Bytes → ℕ → VerdictAnswer
 verdict store c = verdict_given (and_then (opened store) (verdict_of c))
 
 -- 23: "the text doesn't fit the output"; "the rest of the output unaltered"
 unfoldable pub written : Bytes → Result Bytes → Outcome WriteAnswer
-written out (refused r) = record { answer = WriteAnswer.Refused r; bytes = out }
+written out (refused r) = record { answer = Err r; bytes = out }
 written out (accepted text) =
     elim (ltb (length out) (length text)) [
-      | true ↦ record { answer = WriteAnswer.Refused (refusal OutputTooShort 0); bytes = out }
-      | false ↦ record { answer = WriteAnswer.Written (length text); bytes = text ++ drop (length text) out }
+      | true ↦ record { answer = Err (refusal OutputTooShort 0); bytes = out }
+      | false ↦ record { answer = Ok (length text); bytes = text ++ drop (length text) out }
     ]
 
 unfoldable pub write : Bytes → Bytes → Outcome WriteAnswer

@@ -1,10 +1,10 @@
-// The answers of the four calls. `specs/Answers` gives document 01's numbers and values of each case.
+// The answers of the four calls. `specs/Answers` gives the numbers and values of each case.
 #![tactic(auto)]
 
 use format::Refusal;
 
 // The counts of row, flow, comm and claim lines.
-#[derive(Drop)]
+#[derive(Clone, Copy, PartialEq, Eq)]
 pub struct Counts {
     pub rows: usize,
     pub flows: usize,
@@ -12,36 +12,18 @@ pub struct Counts {
     pub claims: usize,
 }
 
-#[derive(Drop)]
-pub enum LoadAnswer {
-    Loaded(Counts),
-    Refused(Refusal),
-}
+pub type LoadAnswer = Result<Counts, Refusal>;
 
 // The count of claims, all of which hold.
-#[derive(Drop)]
-pub enum JudgeAnswer {
-    Accepted(usize),
-    Refused(Refusal),
-}
+pub type JudgeAnswer = Result<usize, Refusal>;
 
-// Whether a verdict was given.
-#[derive(Drop)]
-pub enum VerdictStatus {
-    Given,
-    Refused(Refusal),
-}
-
-// The five words in the order one-shot, one-to-one, fan-out, fan-in, one-sync; all no where the call is refused.
-#[derive(Drop)]
+// Whether a verdict was given, and the five words in the order one-shot, one-to-one, fan-out, fan-in, one-sync; all no
+// where the call is refused.
+#[derive(Clone, Copy, PartialEq, Eq)]
 pub struct VerdictAnswer {
-    pub status: VerdictStatus,
+    pub status: Result<(), Refusal>,
     pub words: [bool; 5],
 }
 
 // The bytes written.
-#[derive(Drop)]
-pub enum WriteAnswer {
-    Written(usize),
-    Refused(Refusal),
-}
+pub type WriteAnswer = Result<usize, Refusal>;

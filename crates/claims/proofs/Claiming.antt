@@ -1,4 +1,5 @@
 -- The claims in turn: one claim more, and the first that fails.
+use Rattle.std.specs.Prelude.{Ok, Err}
 use Prim.Native.Nat.{ℕ, suc, ◌+◌, ◌-◌, ◌<◌, ◌≤◌}
 use native.Mathlib.Omega.{arith}
 use native.Mathlib.Nat.{add-zero}
@@ -14,7 +15,7 @@ use Rattle.format.specs.Limits.{row_limit}
 use Rattle.format.specs.Text.{Bytes, byte_at}
 use Rattle.format.specs.Document.{Claim}
 use Rattle.format.specs.Structure.{first_failing}
-use Rattle.calls.specs.declared.JudgeAnswer.{JudgeAnswer}
+use Rattle.calls.specs.Answers.{JudgeAnswer}
 use Rattle.calls.specs.Layout.{word_of, decode_claims}
 use Rattle.calls.proofs.Codec.Sparse.{either}
 use Rattle.store.proofs.Claims.{claims_on, claims_next}
@@ -64,12 +65,12 @@ held_all ok ks e h = let q : 0 + length ks ≡ length ks = omega arith in ap Hel
 -- ---- the first that fails
 
 unfoldable pub answer_of : ℕ → Option ℕ → JudgeAnswer
-answer_of count none = JudgeAnswer.Accepted count
-answer_of count (some line) = JudgeAnswer.Refused (refusal ClaimFails line)
+answer_of count none = Ok count
+answer_of count (some line) = Err (refusal ClaimFails line)
 
 judged_first : (ok : Claim → Bool) (line held : ℕ) (ks : List Claim) → judged_at line (claims_held ok held ks) ≡ answer_of (held + length ks) (first_failing ok (line + held) ks)
 unfolding claims_held judged_at first_failing answer_of
-judged_first ok line held [] = ap JudgeAnswer.Accepted (sym (add-zero held))
+judged_first ok line held [] = ap Ok (sym (add-zero held))
 judged_first ok line held (k ∷ ks) =
     let q : held + 1 + length ks ≡ held + suc (length ks) = omega arith in
     let r : line + (held + 1) ≡ line + held + 1 = omega arith in

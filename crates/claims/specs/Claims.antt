@@ -1,4 +1,5 @@
 -- The claims of a store in turn: what each says, and the first that fails.
+use Rattle.std.specs.Prelude.{Ok, Err}
 use Rattle.std.specs.Prelude.{ℕ, ◌+◌, Bool, List, [], ◌∷◌, take, drop}
 use Rattle.program.specs.Test.{pick}
 use Rattle.program.specs.Program.{Program}
@@ -8,7 +9,7 @@ use Rattle.format.specs.Limits.{row_limit}
 use Rattle.format.specs.Refusals.{refusal}
 use Rattle.format.specs.Text.{Bytes}
 use Rattle.format.specs.Document.{Claim}
-use Rattle.calls.specs.declared.JudgeAnswer.{JudgeAnswer}
+use Rattle.calls.specs.Answers.{JudgeAnswer}
 use Rattle.calls.specs.Layout.{claims_start, decode_claims}
 use Rattle.verdicts.specs.Words.{word_in}
 use Rattle.claims.specs.declared.Held.{Held}
@@ -32,5 +33,5 @@ holding (Held.Until k) = k
 
 -- what judge answers: their count, or 11 at the line of the first that fails, where the first of all has a line
 unfoldable pub judged_at : ℕ → Held → JudgeAnswer
-judged_at line (Held.All k) = JudgeAnswer.Accepted k
-judged_at line (Held.Until k) = JudgeAnswer.Refused (refusal ClaimFails (line + k))
+judged_at line (Held.All k) = Ok k
+judged_at line (Held.Until k) = Err (refusal ClaimFails (line + k))

@@ -17,10 +17,10 @@ use Rattle.format.specs.Text.{Bytes}
 use Rattle.format.specs.Document.{Claim, Document}
 use Rattle.format.specs.Print.{document_text}
 use Rattle.format.specs.WellFormed.{well_formed}
-use Rattle.calls.specs.declared.LoadAnswer.{LoadAnswer}
-use Rattle.calls.specs.declared.JudgeAnswer.{JudgeAnswer}
+use Rattle.calls.specs.Answers.{LoadAnswer}
+use Rattle.calls.specs.Answers.{JudgeAnswer}
 use Rattle.calls.specs.declared.VerdictAnswer.{VerdictAnswer}
-use Rattle.calls.specs.declared.WriteAnswer.{WriteAnswer}
+use Rattle.calls.specs.Answers.{WriteAnswer}
 use Rattle.calls.specs.Answers.{turned_back, answered, load_answer, judge_answer, verdict_answer, write_answer}
 use Rattle.calls.specs.Layout.{store_size}
 use Rattle.calls.specs.Calls.{Outcome, Leaves, unaltered, load, judge, verdict, write}
@@ -32,7 +32,7 @@ use Rattle.replacement.specs.Replaced.{ReplaceIs, PreviewIs}
 use Rattle.machine.specs.declared.ThreadRecord.{ThreadRecord}
 use Rattle.machine.specs.Machine.{Order, thread_limit}
 use Rattle.run_memory.specs.RunMemory.{run_size}
-use Rattle.run_calls.specs.declared.RunAnswer.{RunAnswer}
+use Rattle.run_calls.specs.RunCalls.{RunAnswer}
 use Rattle.run_calls.specs.RunCalls.{run_answer, LeavesRun, begin}
 use Rattle.run_calls.specs.Watching.{Lent, lent_of, leaves, move_in, played, orders, RowsAre, AllRows, WatchedRun}
 use Rattle.demands.proofs.Demands as definitions

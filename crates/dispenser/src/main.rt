@@ -44,11 +44,11 @@ fn report_input(rt: &(impl Input + Print)) {
 // The bytes written. Store and output are long enough, so that there is always a report.
 fn print_written(rt: &impl Print, answer: WriteAnswer, out: &[u8]) {
     match answer {
-        WriteAnswer::Written(length) => {
+        Ok(length) => {
             if length <= out.len() {
                 let _ = rt.write_all(&out[..length]);
             }
         }
-        WriteAnswer::Refused(_) => {}
+        Err(_) => {}
     }
 }

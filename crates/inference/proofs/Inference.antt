@@ -1,4 +1,5 @@
 -- Infer is as specs/Inferred says: the store with the smallest tables opens again, keeps its rows and claims, keeps every flow rule, and its tables lie in all that do.
+use Rattle.std.specs.Prelude.{Ok, Err}
 use Prim.Native.Nat.{ℕ, zero, suc, ◌≤◌, ◌<◌}
 use native.Mathlib.Omega.{arith}
 use mathlib.Core.Bool.{Bool, not, So, false≢true}
@@ -29,7 +30,7 @@ use Rattle.format.specs.Refusals.{Result, refused, accepted}
 use Rattle.format.proofs.Order.{orderly_iff}
 use Rattle.format.proofs.Rising.{every_append, every_left, every_right}
 use Rattle.format.proofs.Structure.{other_tables, orderly_of, faultless_of}
-use Rattle.calls.specs.declared.LoadAnswer.{LoadAnswer}
+use Rattle.calls.specs.Answers.{LoadAnswer}
 use Rattle.calls.specs.Layout.{member_limit, rows_size, sets_size, claims_start, store_size, counting, padded, row_bytes, sets_bytes, claim_code, encode}
 use Rattle.calls.specs.Judging.{flow_table, comm_table}
 use Rattle.calls.specs.Calls.{Outcome, opened, counts, stored, and_then, judge}
@@ -150,7 +151,7 @@ module _ (store : Bytes) (d : Document) (e : opened store ≡ accepted d) where
   unfolding infer and_then
   infer-stored = ap (λ (x : Result Document). stored store (and_then x λ d. accepted (smallest_document d))) e
 
-  infer_opened : infer store ≡ record { answer = LoadAnswer.Loaded (counts (smallest_document d)); bytes = encode (smallest_document d) ++ drop store_size store }
+  infer_opened : infer store ≡ record { answer = Ok (counts (smallest_document d)); bytes = encode (smallest_document d) ++ drop store_size store }
   infer_opened = infer-stored ∙ stored_is store (smallest_document d)
 
   well_opened : So (well_formed (smallest_document d))
@@ -209,7 +210,7 @@ module _ (store : Bytes) (d : Document) (e : opened store ≡ accepted d) where
 -- ---- a store of any bytes
 
 -- a store that does not open stays as it was
-infer_refused : (store : Bytes) (r : Refusal) → opened store ≡ refused r → infer store ≡ record { answer = LoadAnswer.Refused r; bytes = store }
+infer_refused : (store : Bytes) (r : Refusal) → opened store ≡ refused r → infer store ≡ record { answer = Err r; bytes = store }
 unfolding infer and_then
 infer_refused store r e = ap (λ (x : Result Document). stored store (and_then x λ d. accepted (smallest_document d))) e ∙ stored_refused store r
 
@@ -256,11 +257,11 @@ module _ (store : Bytes) where
       go (refused r) e = ap (λ (o : Outcome LoadAnswer). infer o.bytes) (infer_refused store r e)
       go (accepted d) e =
           let d' = smallest_document d in
-          let o : infer store ≡ record { answer = LoadAnswer.Loaded (counts d'); bytes = encode d' ++ drop store_size store } = infer_opened store d e in
+          let o : infer store ≡ record { answer = Ok (counts d'); bytes = encode d' ++ drop store_size store } = infer_opened store d e in
           let size : length (encode d') ≡ store_size = encode-length d' (orderly_of d' (well_opened store d e)) in
           let rest : drop store_size (infer store).bytes ≡ drop store_size store = ap (λ (o : Outcome LoadAnswer). drop store_size o.bytes) o
           ∙ drop_at (encode d') (drop store_size store) store_size size in
-          let made : Document → Bytes → Outcome LoadAnswer = λ x past. record { answer = LoadAnswer.Loaded (counts x); bytes = encode x ++ past } in
+          let made : Document → Bytes → Outcome LoadAnswer = λ x past. record { answer = Ok (counts x); bytes = encode x ++ past } in
           infer_opened (infer store).bytes d' (opened_again store d e)
           ∙ ap (λ (x : Document). made x (drop store_size (infer store).bytes)) (again d) ∙ ap (made d') rest ∙ sym o
 

@@ -10,7 +10,7 @@ use Rattle.format.specs.Limits.{row_limit}
 use Rattle.format.specs.Text.{Bytes}
 use Rattle.format.specs.Refusals.{accepted}
 use Rattle.format.specs.Document.{Entry, Document, with_tables}
-use Rattle.calls.specs.declared.LoadAnswer.{LoadAnswer}
+use Rattle.calls.specs.Answers.{LoadAnswer}
 use Rattle.calls.specs.Layout.{member_limit, counting, decode_sets}
 use Rattle.calls.specs.Calls.{Outcome, opened, stored, and_then}
 

@@ -6,17 +6,14 @@ ghost use Rattle.format.specs.Refusals.{refusal};
 ghost use Rattle.format.specs.Structure.{row_line};
 ghost use Rattle.calls.specs.Calls.{no_verdict};
 
-use calls::{VerdictAnswer, VerdictStatus};
+use calls::VerdictAnswer;
 use format::{Reason, Refusal};
 
 // 10, at the line of a row.
 pub fn flow_refusal(row: u8) -> Refusal
     ensures { result ≡ refusal Reason.FlowRuleFails (row_line row) }
 {
-    Refusal {
-        reason: Reason::FlowRuleFails,
-        line: row as usize + 2,
-    }
+    Reason::FlowRuleFails.at_row(row)
 }
 
 // A verdict that is not given: no word holds.
@@ -24,7 +21,7 @@ pub fn no_verdict(refusal: Refusal) -> VerdictAnswer
     ensures { result ≡ no_verdict refusal }
 {
     VerdictAnswer {
-        status: VerdictStatus::Refused(refusal),
+        status: Err(refusal),
         words: [false, false, false, false, false],
     }
 }
@@ -33,8 +30,5 @@ pub fn no_verdict(refusal: Refusal) -> VerdictAnswer
 pub fn not_a_channel() -> VerdictAnswer
     ensures { result ≡ no_verdict (refusal Reason.NotAChannel 0) }
 {
-    no_verdict(Refusal {
-        reason: Reason::NotAChannel,
-        line: 0,
-    })
+    no_verdict(Reason::NotAChannel.at(0))
 }

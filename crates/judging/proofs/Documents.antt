@@ -1,4 +1,5 @@
 -- Judge and verdict of the document in a store, by the store's bytes.
+use Rattle.std.specs.Prelude.{Ok, Err}
 use Prim.Native.Nat.{ℕ, ◌+◌, ◌-◌, ◌<◌, ◌≤◌}
 use native.Mathlib.Omega.{arith}
 use mathlib.Core.Bool.{Bool, true, false, not}
@@ -19,8 +20,7 @@ use Rattle.format.specs.Limits.{row_limit}
 use Rattle.format.specs.Text.{Bytes}
 use Rattle.format.specs.Document.{Claim, Document}
 use Rattle.format.specs.Structure.{row_line, claim_line, first_failing}
-use Rattle.calls.specs.declared.JudgeAnswer.{JudgeAnswer}
-use Rattle.calls.specs.declared.VerdictStatus.{VerdictStatus}
+use Rattle.calls.specs.Answers.{JudgeAnswer}
 use Rattle.calls.specs.Layout.{rows_size, sets_size, store_size, decode, decode_sets, decode_claims, comms_start, claims_start}
 use Rattle.calls.specs.Canonical.{count_rows}
 use Rattle.calls.specs.Judging.{word_holds, reaches, failing_row, failing_claim, after10, judge_claims, judge_document, verdict_document, verdict_words}
@@ -136,7 +136,7 @@ module _ (n : ℕ) (s : Bytes) (rows : n ≡ count_rows row_limit s) where
         judged_is _ _ _ ∙ rw (← claims_same_bytes, same) (answer_is (first_failing (λ k. word_holds (decode s) (reaches (decode s)) k.channel k.word) (claim_line (decode s)) (decode s).claims))
 
     module _ {m : ℕ} (e : m ≡ row_or (least n (λ r. not (keeps r)))) where
-      pub judge_refused : m < n → JudgeAnswer.Refused (refusal FlowRuleFails (row_line m)) ≡ judge_answered (judge_document (decode s))
+      pub judge_refused : m < n → Err (refusal FlowRuleFails (row_line m)) ≡ judge_answered (judge_document (decode s))
       unfolding judge_document judge_answered
       judge_refused l = rw (flow_refused e l)
 
@@ -161,12 +161,12 @@ module _ (n : ℕ) (s : Bytes) (rows : n ≡ count_rows row_limit s) where
     verdict_refused l = rw (chan_is c q, flow_refused e l, verdict_given) refl
 
     pub verdict_goes : n ≤ m → {words : List Bool} → words ≡ map (word_in (store_program n s) (store_flow s) c) verdict_words
-        → record { status = VerdictStatus.Given; words = words } ≡ verdict_given (verdict_of c (decode s))
+        → record { status = Ok tt; words = words } ≡ verdict_given (verdict_of c (decode s))
     unfolding verdict_of verdict_given verdict_document
     verdict_goes l {words} w =
         let f : map (word_holds (decode s) (reaches (decode s)) c) verdict_words ≡ words = ap (λ (f : Word → Bool). map f verdict_words) (fun_ext (word_is c)) ∙ sym w in
         rw (chan_is c q, flow_passed e l, verdict_given, f) refl
 
 -- a refusal is no acceptance
-pub not_accepted : {r : Refusal} {k : ℕ} {P : Type 0} → JudgeAnswer.Refused r ≡ JudgeAnswer.Accepted k → P
+pub not_accepted : {r : Refusal} {k : ℕ} {P : Type 0} → Err r ≡ Ok k → P
 not_accepted e = let z : ◌≡◌ {A = ℕ} 0 1 = cc in absurd (omega arith)

@@ -14,9 +14,9 @@ ghost use Rattle.grids.specs.Grid.{grid_size, Shows};
 ghost use Rattle.claims.specs.Claims.{claim_in, store_claims, claims_held, holding, judged_at};
 ghost use Rattle.judging.specs.Judged.{Judged};
 
-use calls::{JudgeAnswer, VerdictAnswer, VerdictStatus};
+use calls::{JudgeAnswer, VerdictAnswer};
 use claims::Held;
-use format::{Reason, Refusal};
+use format::Reason;
 use grids::GRID;
 use judge_answers::{flow_refusal, no_verdict, not_a_channel};
 use row_lists::{SYNC, rows_of_kind};
@@ -44,14 +44,11 @@ fn claims_answer(store: &[u8], rows: u8, held: Held) -> JudgeAnswer
     ensures { result ≡ judged_at (claim_line (decode store.now)) held }
 {
     match held {
-        Held::All(count) => JudgeAnswer::Accepted(count),
+        Held::All(count) => Ok(count),
         Held::Until(count) => {
             let line = claim_line(store, rows);
             let fails = line + count;
-            JudgeAnswer::Refused(Refusal {
-                reason: Reason::ClaimFails,
-                line: fails,
-            })
+            Err(Reason::ClaimFails.at(fails))
         }
     }
 }
@@ -84,7 +81,7 @@ pub fn judge_rows(store: &[u8], rows: u8) -> JudgeAnswer
 {
     let first = flow::failing_row(store, rows);
     if first < rows {
-        return JudgeAnswer::Refused(flow_refusal(first));
+        return Err(flow_refusal(first));
     }
     let held = claims_held(store, rows);
     claims_answer(store, rows, held)
@@ -101,7 +98,7 @@ pub fn judge_store(store: &[u8], rows: u8, grid: &mut [u8]) -> JudgeAnswer
 {
     let row = flow::failing_row(store, rows);
     if row < rows {
-        return JudgeAnswer::Refused(flow_refusal(row));
+        return Err(flow_refusal(row));
     }
     reach::fill_reach(store, rows, grid);
     let held = claims::judge_claims(store, rows, grid);
@@ -125,7 +122,7 @@ pub fn verdict_rows(store: &[u8], rows: u8, channel: usize) -> VerdictAnswer
             return no_verdict(flow_refusal(failing));
         }
         return VerdictAnswer {
-            status: VerdictStatus::Given,
+            status: Ok(()),
             words: verdicts::lone_words(store, rows, c),
         };
     }

@@ -1,4 +1,5 @@
 -- A run call looks at no record but the first ones, and alters no other: the call on these, put back, is the call on the whole lent list.
+use Rattle.std.specs.Prelude.{Ok}
 use Prim.Native.Nat.{ℕ, zero, suc, ◌+◌, ◌≤◌, ◌<◌}
 use native.Mathlib.Omega.{arith}
 use mathlib.Core.Bool.{Bool, true, false, ◌&&◌}
@@ -15,7 +16,7 @@ use Rattle.machine.specs.declared.ThreadRecord.{ThreadRecord}
 use Rattle.machine.specs.Machine.{Machine, Change, thread_at, change, meeting, changed, changed_all, within, Order, alone, together, changes, sound, cell_limit, frame_limit, thread_limit}
 use Rattle.run_memory.specs.RunMemory.{in_use, machine_in, within_limits, sound_run, bytes_after, placed, threads_after}
 use Rattle.calls.specs.Layout.{store_size, decode}
-use Rattle.run_calls.specs.declared.RunAnswer.{RunAnswer}
+use Rattle.run_calls.specs.RunCalls.{RunAnswer}
 use Rattle.run_calls.specs.RunCalls.{RunOutcome, Lends, store_opened, run_opened, begun_in, begin_with, begin_on, threads_all, made, move_with, move_on}
 use Rattle.run_calls.proofs.Left.{Within, uses_in, uses_changed, grows, left_one, lends_one, left_all, within_told}
 use Rattle.run_calls.proofs.Opened.{threads_within, RunIs, opened_told}
@@ -153,7 +154,7 @@ module _ (ts : Threads) (enough : thread_limit ≤ length ts) where
               let told : Within (changed_all (machine_in run xs) cs) = within_told _ w' in
               let below : Below thread_limit cs = below_more (threads_within (in_use run) h.counts_within) (changes_below p run ts o cs e) in
               rw (w, w') (record {
-                answer = ap (λ (m : Machine). RunAnswer.Threads (length (changed_all m cs).threads)) same;
+                answer = ap (λ (m : Machine). Ok (length (changed_all m cs).threads)) same;
                 run = refl;
                 threads = sym (all_front cs run xs ys lends told below) ∙ ap (λ (l : Threads). threads_all run l cs) whole;
                 size = (left_all cs run xs lends told).records ∙ size;

@@ -1,4 +1,5 @@
 -- A file that has been read into a store: its document is the store's, and what load leaves of it.
+use Rattle.std.specs.Prelude.{Ok, Err}
 use Prim.Native.Nat.{ℕ, ◌≤◌, ◌<◌}
 use mathlib.Core.Bool.{So}
 use mathlib.Core.List.{◌++◌}
@@ -19,7 +20,7 @@ use Rattle.format.specs.Read.{read_file, no_lines}
 use Rattle.format.specs.Structure.{structure_fault}
 use Rattle.format.specs.Check.{check_structure, check_any, check}
 use Rattle.format.proofs.Files.{print_read}
-use Rattle.calls.specs.declared.LoadAnswer.{LoadAnswer}
+use Rattle.calls.specs.Answers.{LoadAnswer}
 use Rattle.calls.specs.Layout.{store_size, encode, decode}
 use Rattle.calls.specs.Calls.{Leaves, counts, refilled, loaded, load}
 use Rattle.calls.specs.Canonical.{count_rows}
@@ -70,10 +71,10 @@ refilled_same s t fixed e = ap (λ (rest : Bytes). fixed ++ rest) e
 
 same_past : (s t : Bytes) (x : Result Document) → drop store_size s ≡ drop store_size t → loaded s x ≡ loaded t x
 unfolding loaded
-same_past s t (refused r) e = ap (λ (left : Bytes). record { answer = LoadAnswer.Refused r; bytes = left }) (refilled_same s t (replicate store_size 0) e)
-same_past s t (accepted d) e = ap (λ (left : Bytes). record { answer = LoadAnswer.Loaded (counts d); bytes = left }) (refilled_same s t (encode d) e)
+same_past s t (refused r) e = ap (λ (left : Bytes). record { answer = Err r; bytes = left }) (refilled_same s t (replicate store_size 0) e)
+same_past s t (accepted d) e = ap (λ (left : Bytes). record { answer = Ok (counts d); bytes = left }) (refilled_same s t (encode d) e)
 
-pub too_short : (file store : Bytes) → length store < store_size → Leaves (load file store) (LoadAnswer.Refused (refusal StoreTooShort 0)) store
+pub too_short : (file store : Bytes) → length store < store_size → Leaves (load file store) (Err (refusal StoreTooShort 0)) store
 unfolding load
 too_short file store l = rw (lt-ltb (length store) store_size l, load) (record { answer_is = refl; bytes_are = refl })
 
@@ -81,7 +82,7 @@ pub long_enough : (file store : Bytes) {a : LoadAnswer} {left : Bytes} → store
 unfolding load
 long_enough file store l h = rw (le-ltb (length store) store_size l, load) h
 
-pub emptied : (store : Bytes) (r : Refusal) → Leaves (loaded store (refused r)) (LoadAnswer.Refused r) (replicate store_size 0 ++ drop store_size store)
+pub emptied : (store : Bytes) (r : Refusal) → Leaves (loaded store (refused r)) (Err r) (replicate store_size 0 ++ drop store_size store)
 unfolding loaded refilled
 emptied store r = record { answer_is = refl; bytes_are = refl }
 
@@ -106,7 +107,7 @@ finish_refused p s r small e h =
     }
 
 pub finish_sound : (p : Progress) (s : Bytes) → p.rows ≤ row_limit → none ≡ structure_fault (store_document p.rows s)
-    → Finishes p s (LoadAnswer.Loaded (record { rows = p.rows; flows = p.flows; comms = p.comms; claims = p.claims })) s
+    → Finishes p s (Ok (record { rows = p.rows; flows = p.flows; comms = p.comms; claims = p.claims })) s
 unfolding check_structure loaded refilled counts
 finish_sound p s small e =
     record {

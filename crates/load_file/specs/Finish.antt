@@ -5,7 +5,7 @@ use Rattle.format.specs.Document.{Document}
 use Rattle.format.specs.Refusals.{accepted}
 use Rattle.format.specs.Check.{check_structure}
 use Rattle.format.specs.WellFormed.{orderly}
-use Rattle.calls.specs.declared.LoadAnswer.{LoadAnswer}
+use Rattle.calls.specs.Answers.{LoadAnswer}
 use Rattle.calls.specs.Calls.{Leaves, loaded}
 use Rattle.progress.specs.declared.Progress.{Progress}
 use Rattle.progress.specs.Progress.{Matches}

@@ -14,7 +14,6 @@ use format::{Reason, Refusal};
 use load_lines::FileRead;
 use progress::Progress;
 use store::Store;
-use structure::Structure;
 
 // A refusal leaves the store empty.
 fn refuse(store: &mut [u8], refusal: Refusal) -> LoadAnswer
@@ -22,7 +21,7 @@ fn refuse(store: &mut [u8], refusal: Refusal) -> LoadAnswer
     ensures { Leaves (loaded store.old (refused refusal)) result store.new }
 {
     store::clear(store);
-    LoadAnswer::Refused(refusal)
+    Err(refusal)
 }
 
 // Refusals 6 to 9 of a store that holds the lines of a file, or its counts.
@@ -33,8 +32,8 @@ fn finish(store: &mut [u8], p: Progress) -> LoadAnswer
 {
     let rows = p.rows as u8;
     match structure::structure_fault(store, rows) {
-        Structure::Refused(refusal) => refuse(store, refusal),
-        Structure::Sound => LoadAnswer::Loaded(Counts {
+        Err(refusal) => refuse(store, refusal),
+        Ok(()) => Ok(Counts {
             rows: p.rows,
             flows: p.flows,
             comms: p.comms,
@@ -49,13 +48,7 @@ pub fn load_file(file: &[u8], store: &mut [u8]) -> LoadAnswer
     ensures { Leaves (loaded store.old (check file.now)) result store.new }
 {
     if Store::FILE_BYTES < file.len() {
-        return refuse(
-            store,
-            Refusal {
-                reason: Reason::TooLong,
-                line: 0,
-            },
-        );
+        return refuse(store, Reason::TooLong.at(0));
     }
     store::clear(store);
     match load_lines::load_lines(file, store) {

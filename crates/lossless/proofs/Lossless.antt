@@ -1,4 +1,5 @@
 -- Every answer of the calls is packed without loss: lines and texts are short, counts are bytes, words are bits.
+use Rattle.std.specs.Prelude.{Ok, Err}
 use Prim.Native.Nat.{ℕ, ◌+◌, ◌*◌, ◌^◌, ◌≤◌, ◌<◌}
 use native.Mathlib.Omega.{arith}
 use mathlib.Core.Bool.{Bool, true, false}
@@ -14,8 +15,8 @@ use Rattle.format.specs.declared.Reason.TheVariants.{StoreTooShort, OutputTooSho
 use Rattle.format.specs.Refusals.{refusal, Result, refused, accepted}
 use Rattle.format.specs.Document.{Document}
 use Rattle.format.specs.Print.{document_text}
-use Rattle.calls.specs.declared.LoadAnswer.{LoadAnswer}
-use Rattle.calls.specs.declared.WriteAnswer.{WriteAnswer}
+use Rattle.calls.specs.Answers.{LoadAnswer}
+use Rattle.calls.specs.Answers.{WriteAnswer}
 use Rattle.calls.specs.Answers.{Answer, turned_back, answered, refusal_answer, load_answer, judge_answer, verdict_answer, write_answer}
 use Rattle.calls.specs.Layout.{store_size, decode}
 use Rattle.calls.specs.Canonical.{count_rows}
@@ -81,10 +82,10 @@ unfolding reported write_answer refusal_answer
 report_within file store out = go (ltb (length store) store_size) (ltb (length out) report_limit)
   where
     go : (a b : Bool) → Within 0 report_limit (write_answer (elim a as (λ a. Reporting) [
-      | true ↦ record { answer = WriteAnswer.Refused (refusal StoreTooShort 0); store = store; out = out }
+      | true ↦ record { answer = Err (refusal StoreTooShort 0); store = store; out = out }
       | false ↦ elim b [
-        | true ↦ record { answer = WriteAnswer.Refused (refusal OutputTooShort 0); store = store; out = out }
-        | false ↦ record { answer = WriteAnswer.Written (length (report file)); store = (load file store).bytes; out = report file ++ drop (length (report file)) out }
+        | true ↦ record { answer = Err (refusal OutputTooShort 0); store = store; out = out }
+        | false ↦ record { answer = Ok (length (report file)); store = (load file store).bytes; out = report file ++ drop (length (report file)) out }
       ]
     ]).answer)
     go true b = line_within {l = 0} (omega arith)
@@ -131,8 +132,8 @@ module _ (store : Bytes) (n : ℕ) (unit : Bool) (rows : Bytes) where
       widened a (values_within h) = values_within h
 
       go : (a : LoadAnswer) → Within 0 row_limit (load_answer a) → Within last_line row_limit (judge_answer (judge_left a (replace store n unit rows).bytes))
-      go (LoadAnswer.Loaded c) h = unfold judge_left in judge_within (replace store n unit rows).bytes
-      go (LoadAnswer.Refused r) h = unfold judge_left judge_answer in widened (refusal_answer r) (unfold load_answer in h)
+      go (Ok c) h = unfold judge_left in judge_within (replace store n unit rows).bytes
+      go (Err r) h = unfold judge_left judge_answer in widened (refusal_answer r) (unfold load_answer in h)
 
 -- ---- the calls: each answer is packed without loss, so that what a caller reads in the number is the answer
 

@@ -4,7 +4,7 @@
 
 // A thread: its row, the newest cell of its environment, and the frame of the last return that waits.
 #[repr(C)]
-#[derive(Clone, Copy)]
+#[derive(Clone, Copy, PartialEq, Eq)]
 pub struct ThreadRecord {
     pub row: u8,
     pub cell: u16,
@@ -12,7 +12,7 @@ pub struct ThreadRecord {
 }
 
 // A value: unit, a channel by the cell that made it, or a value row with the newest cell of its environment.
-#[derive(Drop)]
+#[derive(Clone, Copy, PartialEq, Eq)]
 pub enum Held {
     Unit,
     Channel(u16),
@@ -20,14 +20,14 @@ pub enum Held {
 }
 
 // What a cell keeps: a channel that this very cell made, so that no cell names itself; or a value.
-#[derive(Drop)]
+#[derive(Clone, Copy, PartialEq, Eq)]
 pub enum Kept {
     Makes,
     Keeps(Held),
 }
 
 // A bound name, what it has, and the cell of the name bound before it.
-#[derive(Drop)]
+#[derive(Clone, Copy, PartialEq, Eq)]
 pub struct Cell {
     pub name: u8,
     pub older: u16,
@@ -35,7 +35,7 @@ pub struct Cell {
 }
 
 // A waiting return: its name, where it goes on, the newest cell of its environment, and the frame of the return that waits below it.
-#[derive(Drop)]
+#[derive(Clone, Copy, PartialEq, Eq)]
 pub struct Frame {
     pub name: u8,
     pub rest: u8,

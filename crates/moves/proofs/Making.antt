@@ -1,4 +1,5 @@
 -- What a move takes, pushed piece by piece.
+use Rattle.std.specs.Prelude.{Ok, Err}
 use Prim.Native.Nat.{ℕ, suc, ◌+◌, ◌≤◌, ◌<◌}
 use native.Mathlib.Omega.{arith}
 use mathlib.Core.Bool.{Bool, true, false, ◌&&◌, So}
@@ -20,7 +21,7 @@ use Rattle.machine.specs.Machine.{Machine, Change, changed_all, within, cell_lim
 use Rattle.run_memory.specs.declared.InUse.{InUse}
 use Rattle.run_memory.specs.RunMemory.{run_size, in_use, counts, has_room, machine_in, push_cell, push_frame, push_thread, push_cells, push_frames, push_threads, bytes_after, placed, threads_after}
 use Rattle.run_memory.proofs.Codec.{cell_pushed}
-use Rattle.run_calls.specs.declared.RunAnswer.{RunAnswer}
+use Rattle.run_calls.specs.RunCalls.{RunAnswer}
 use Rattle.run_calls.specs.RunCalls.{RunOutcome, Lends, LeavesRun, bytes_all, threads_all, made}
 use Rattle.run_calls.proofs.Left.{Takes, takes_one, takes_two, within_room, within_told, left_all, uses_in, LeftAll}
 use Rattle.thread_records.specs.declared.Records.{Records}
@@ -49,11 +50,11 @@ module _ (run : Bytes) (ts : List ThreadRecord) (h : Lends run ts) (cs : List (�
   room : within (changed_all (machine_in run ts) cs) ≡ has_room (in_use run) a b k
   room = let l = h.records in let t = h.threads in within_room run ts (omega (arith, l, t)) cs takes
 
-  pub made_refused : has_room (in_use run) a b k ≡ false → LeavesRun (made run ts (some cs)) (RunAnswer.Refused (refusal LimitExceeded 0)) run ts
+  pub made_refused : has_room (in_use run) a b k ≡ false → LeavesRun (made run ts (some cs)) (Err (refusal LimitExceeded 0)) run ts
   unfolding made
   made_refused e = let q : within (changed_all (machine_in run ts) cs) ≡ false = room ∙ e in rw q (record { answer_is = refl; run_is = refl; threads_are = refl })
 
-  pub made_accepted : has_room (in_use run) a b k ≡ true → LeavesRun (made run ts (some cs)) (RunAnswer.Threads (in_use (bytes_all run cs)).threads) (bytes_all run cs) (threads_all run ts cs)
+  pub made_accepted : has_room (in_use run) a b k ≡ true → LeavesRun (made run ts (some cs)) (Ok (in_use (bytes_all run cs)).threads) (bytes_all run cs) (threads_all run ts cs)
   unfolding made
   made_accepted e =
       let q : within (changed_all (machine_in run ts) cs) ≡ true = room ∙ e in
@@ -61,7 +62,7 @@ module _ (run : Bytes) (ts : List ThreadRecord) (h : Lends run ts) (cs : List (�
       let l = all.lends.records in
       let t = all.lends.threads in
       let u = uses_in (bytes_all run cs) (threads_all run ts cs) (omega (arith, l, t)) in
-      rw q (record { answer_is = ap RunAnswer.Threads (sym u.threads ∙ ap (λ (m : Machine). length m.threads) all.machine); run_is = refl; threads_are = refl })
+      rw q (record { answer_is = ap Ok (sym u.threads ∙ ap (λ (m : Machine). length m.threads) all.machine); run_is = refl; threads_are = refl })
 
 -- ---- room for the next push, after a cell was pushed
 
@@ -106,27 +107,27 @@ module _ {run b : Bytes} {n : ℕ} (h : Pushed run b n) where
 
 module _ (run : Bytes) (ts : List ThreadRecord) (h : Lends run ts) (n : ℕ) (t : ThreadRecord) where
   pub bind_made : (cell : Cell) → has_room (in_use run) 1 0 0 ≡ true
-      → LeavesRun (made run ts (some ((n, change_of (cell ∷ []) [] t []) ∷ []))) (RunAnswer.Threads (in_use (push_cell run cell)).threads) (push_cell run cell) (set ts n t)
+      → LeavesRun (made run ts (some ((n, change_of (cell ∷ []) [] t []) ∷ []))) (Ok (in_use (push_cell run cell)).threads) (push_cell run cell) (set ts n t)
   unfolding bytes_all threads_all bytes_after threads_after push_cells push_frames push_threads placed
   bind_made cell e = made_accepted run ts h ((n, change_of (cell ∷ []) [] t []) ∷ []) (takes_one n (change_of (cell ∷ []) [] t [])) e
 
   pub spawn_made : (cell : Cell) (born : ThreadRecord) → has_room (in_use run) 1 0 1 ≡ true
-      → LeavesRun (made run ts (some ((n, change_of (cell ∷ []) [] t (born ∷ [])) ∷ []))) (RunAnswer.Threads (in_use (push_thread (push_cell run cell))).threads) (push_thread (push_cell run cell)) (set (set ts n t) (in_use run).threads born)
+      → LeavesRun (made run ts (some ((n, change_of (cell ∷ []) [] t (born ∷ [])) ∷ []))) (Ok (in_use (push_thread (push_cell run cell))).threads) (push_thread (push_cell run cell)) (set (set ts n t) (in_use run).threads born)
   unfolding bytes_all threads_all bytes_after threads_after push_cells push_frames push_threads placed
   spawn_made cell born e = made_accepted run ts h ((n, change_of (cell ∷ []) [] t (born ∷ [])) ∷ []) (takes_one n (change_of (cell ∷ []) [] t (born ∷ []))) e
 
   pub enter_made : (cell : Cell) (frame : Frame) → has_room (in_use run) 1 1 0 ≡ true
-      → LeavesRun (made run ts (some ((n, change_of (cell ∷ []) (frame ∷ []) t []) ∷ []))) (RunAnswer.Threads (in_use (push_frame (push_cell run cell) frame)).threads) (push_frame (push_cell run cell) frame) (set ts n t)
+      → LeavesRun (made run ts (some ((n, change_of (cell ∷ []) (frame ∷ []) t []) ∷ []))) (Ok (in_use (push_frame (push_cell run cell) frame)).threads) (push_frame (push_cell run cell) frame) (set ts n t)
   unfolding bytes_all threads_all bytes_after threads_after push_cells push_frames push_threads placed
   enter_made cell frame e = made_accepted run ts h ((n, change_of (cell ∷ []) (frame ∷ []) t []) ∷ []) (takes_one n (change_of (cell ∷ []) (frame ∷ []) t [])) e
 
   pub apply_made : (parameter own : Cell) (frame : Frame) → has_room (in_use run) 2 1 0 ≡ true
-      → LeavesRun (made run ts (some ((n, change_of (parameter ∷ own ∷ []) (frame ∷ []) t []) ∷ []))) (RunAnswer.Threads (in_use (push_frame (push_cell (push_cell run own) parameter) frame)).threads) (push_frame (push_cell (push_cell run own) parameter) frame) (set ts n t)
+      → LeavesRun (made run ts (some ((n, change_of (parameter ∷ own ∷ []) (frame ∷ []) t []) ∷ []))) (Ok (in_use (push_frame (push_cell (push_cell run own) parameter) frame)).threads) (push_frame (push_cell (push_cell run own) parameter) frame) (set ts n t)
   unfolding bytes_all threads_all bytes_after threads_after push_cells push_frames push_threads placed
   apply_made parameter own frame e = made_accepted run ts h ((n, change_of (parameter ∷ own ∷ []) (frame ∷ []) t []) ∷ []) (takes_one n (change_of (parameter ∷ own ∷ []) (frame ∷ []) t [])) e
 
   pub both_made : (received : Cell) (l : ℕ) (sent : Cell) (s : ThreadRecord) → has_room (in_use run) 2 0 0 ≡ true
-      → LeavesRun (made run ts (some ((n, change_of (received ∷ []) [] t []) ∷ (l, change_of (sent ∷ []) [] s []) ∷ []))) (RunAnswer.Threads (in_use (push_cell (push_cell run received) sent)).threads) (push_cell (push_cell run received) sent) (set (set ts n t) l s)
+      → LeavesRun (made run ts (some ((n, change_of (received ∷ []) [] t []) ∷ (l, change_of (sent ∷ []) [] s []) ∷ []))) (Ok (in_use (push_cell (push_cell run received) sent)).threads) (push_cell (push_cell run received) sent) (set (set ts n t) l s)
   unfolding bytes_all threads_all bytes_after threads_after push_cells push_frames push_threads placed
   both_made received l sent s e =
       made_accepted run ts h ((n, change_of (received ∷ []) [] t []) ∷ (l, change_of (sent ∷ []) [] s []) ∷ []) (takes_two n l (change_of (received ∷ []) [] t []) (change_of (sent ∷ []) [] s [])) e
@@ -147,18 +148,18 @@ module _ (u n : InUse) (a b k : ℕ) (e : n ≡ u) where
   no_more c f = rw (← e, le-leb _ _ c, le-leb _ _ f)
 
 module _ {o : RunOutcome} {x : Moved} {r : Records} where
-  pub accepted_leaves : {run run' : Bytes} {ts : List ThreadRecord} → x ≡ moved_of (RunAnswer.Threads (in_use run).threads) r → run ≡ run' → r.list ≡ ts
-      → LeavesRun o (RunAnswer.Threads (in_use run').threads) run' ts → LeavesRun o x.answer run x.records.list
+  pub accepted_leaves : {run run' : Bytes} {ts : List ThreadRecord} → x ≡ moved_of (Ok (in_use run).threads) r → run ≡ run' → r.list ≡ ts
+      → LeavesRun o (Ok (in_use run').threads) run' ts → LeavesRun o x.answer run x.records.list
   accepted_leaves e q s h = record {
-    answer_is = ap (λ (m : Moved). m.answer) e ∙ ap (λ (b : Bytes). RunAnswer.Threads (in_use b).threads) q ∙ h.answer_is;
+    answer_is = ap (λ (m : Moved). m.answer) e ∙ ap (λ (b : Bytes). Ok (in_use b).threads) q ∙ h.answer_is;
     run_is = q ∙ h.run_is;
     threads_are = ap (λ (m : Moved). m.records.list) e ∙ s ∙ h.threads_are;
   }
 
-  pub refused_leaves : {reason : Reason} {run : Bytes} → x ≡ moved_of (RunAnswer.Refused (refusal reason 0)) r → LeavesRun o (RunAnswer.Refused (refusal reason 0)) run r.list → LeavesRun o x.answer run x.records.list
+  pub refused_leaves : {reason : Reason} {run : Bytes} → x ≡ moved_of (Err (refusal reason 0)) r → LeavesRun o (Err (refusal reason 0)) run r.list → LeavesRun o x.answer run x.records.list
   refused_leaves e h = record { answer_is = ap (λ (m : Moved). m.answer) e ∙ h.answer_is; run_is = h.run_is; threads_are = ap (λ (m : Moved). m.records.list) e ∙ h.threads_are }
 
 -- nothing is found: 30
-pub none_made : (run : Bytes) (ts : List ThreadRecord) → LeavesRun (made run ts none) (RunAnswer.Refused (refusal MoveNotAllowed 0)) run ts
+pub none_made : (run : Bytes) (ts : List ThreadRecord) → LeavesRun (made run ts none) (Err (refusal MoveNotAllowed 0)) run ts
 unfolding made
 none_made run ts = record { answer_is = refl; run_is = refl; threads_are = refl }

@@ -3,7 +3,7 @@ use Rattle.std.specs.Prelude.{ℕ, List, [], ◌∷◌}
 use Rattle.std.specs.Prelude.{Option, Some as some}
 use Rattle.program.specs.Maybe.{◌>>=◌}
 use Rattle.machine.specs.Machine.{Change}
-use Rattle.run_calls.specs.declared.RunAnswer.{RunAnswer}
+use Rattle.run_calls.specs.RunCalls.{RunAnswer}
 use Rattle.thread_records.specs.declared.Records.{Records}
 use Rattle.thread_changes.specs.declared.ThreadChange.{ThreadChange}
 use Rattle.thread_changes.specs.Changes.{change_in}

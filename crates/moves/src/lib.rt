@@ -6,12 +6,11 @@ ghost use Rattle.std.specs.Prelude.{Some as some};
 ghost use Rattle.format.specs.Refusals.{refusal};
 ghost use Rattle.machine.specs.Machine.{thread_limit};
 ghost use Rattle.run_memory.specs.RunMemory.{InLimits, in_use, has_room};
-ghost use Rattle.run_calls.specs.declared.RunAnswer.{RunAnswer};
 ghost use Rattle.run_calls.specs.RunCalls.{Lends, LeavesRun, made};
 ghost use Rattle.thread_changes.specs.Changes.{change_of};
 ghost use Rattle.moves.specs.Moves.{moved_of, alone_in, together_in};
 
-use format::{Reason, Refusal};
+use format::Reason;
 use machine::{Cell, Frame, ThreadRecord};
 use meetings::Met;
 use run_calls::RunAnswer;
@@ -49,24 +48,21 @@ fn has_room(run: &[u8], cells: u16, frames: u16, threads: u8) -> bool
 
 // A refusal, with the records as they were.
 pub fn refuse(reason: Reason, records: Records) -> Moved
-    ensures { result ≡ moved_of (RunAnswer.Refused (refusal reason 0)) records }
+    ensures { result ≡ moved_of (Err (refusal reason 0)) records }
 {
     Moved {
-        answer: RunAnswer::Refused(Refusal {
-            reason: reason,
-            line: 0,
-        }),
+        answer: Err(reason.at(0)),
         records: records,
     }
 }
 
 // The threads then in use.
 fn accept(run: &[u8], records: Records) -> Moved
-    ensures { result ≡ moved_of (RunAnswer.Threads (in_use run.now).threads) records }
+    ensures { result ≡ moved_of (Ok (in_use run.now).threads) records }
 {
     let n = in_use(run);
     Moved {
-        answer: RunAnswer::Threads(n.threads),
+        answer: Ok(n.threads),
         records: records,
     }
 }

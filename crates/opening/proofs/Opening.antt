@@ -1,4 +1,5 @@
 -- Opening a store: the tests of its bytes, then those of its structure.
+use Rattle.std.specs.Prelude.{Ok, Err}
 use Prim.Native.Nat.{ℕ, ◌≤◌, ◌<◌}
 use native.Mathlib.Omega.{arith}
 use mathlib.Core.Bool.{Bool, true, false, not, ◌&&◌, and-false}
@@ -29,7 +30,7 @@ use Rattle.structure.specs.Answer.{tree_fault}
 use Rattle.structure.proofs.Refusing.{tree_then, tree_refused}
 use Rattle.sound_lines.specs.Sound.{codes_sound, passes}
 use Rattle.sound_lines.proofs.Lines.{claims_codes}
-use Rattle.opening.specs.declared.Opened.{Opened}
+use Rattle.opening.specs.Opening.{Opened}
 use Rattle.opening.specs.Opening.{OpenedIs}
 
 -- a refusal at a line is none where there is no line
@@ -52,18 +53,18 @@ module _ (s : Bytes) (size : length s ≡ store_size) where
   unfolding is_empty
   all_zeros e = e
 
-  pub empty_refused : is_empty s ≡ true → OpenedIs (opened_fixed s) s (Opened.Refused (refusal StoreEmpty 0))
+  pub empty_refused : is_empty s ≡ true → OpenedIs (opened_fixed s) s (Err (refusal StoreEmpty 0))
   unfolding opened_fixed
   empty_refused e = rw (e, opened_fixed) refl
 
   -- 22 is given where the tests fail
-  pub unsound_refused : is_empty s ≡ false → unsound s ≡ true → OpenedIs (opened_fixed s) s (Opened.Refused (refusal StoreUnsound 0))
+  pub unsound_refused : is_empty s ≡ false → unsound s ≡ true → OpenedIs (opened_fixed s) s (Err (refusal StoreUnsound 0))
   unfolding opened_fixed
   unsound_refused e u = rw (e, u, opened_fixed) refl
 
-  pub store_opens : (n : ℕ) → n ≡ count_rows row_limit s → is_empty s ≡ false → unsound s ≡ false → OpenedIs (opened_fixed s) s (Opened.Rows n)
+  pub store_opens : (n : ℕ) → n ≡ count_rows row_limit s → is_empty s ≡ false → unsound s ≡ false → OpenedIs (opened_fixed s) s (Ok n)
   unfolding opened_fixed
-  store_opens n e z u = rw (z, u, opened_fixed) (record { document_is = refl; answer_is = ap Opened.Rows e })
+  store_opens n e z u = rw (z, u, opened_fixed) (record { document_is = refl; answer_is = ap Ok e })
 
   -- the tests of the rows, of the tree, and of the sets and claims
   module _ (n : ℕ) (e : n ≡ count_rows row_limit s) where
@@ -96,7 +97,7 @@ module _ (s : Bytes) (size : length s ≡ store_size) where
 
 -- ---- a store at the head of a slice
 
-pub too_short_refused : (s : Bytes) → length s < store_size → OpenedIs (opened s) (take store_size s) (Opened.Refused (refusal StoreTooShort 0))
+pub too_short_refused : (s : Bytes) → length s < store_size → OpenedIs (opened s) (take store_size s) (Err (refusal StoreTooShort 0))
 unfolding opened
 too_short_refused s l = rw (lt-ltb (length s) store_size l, opened) refl
 
@@ -107,11 +108,11 @@ fixed-opened s o l h = rw (le-ltb (length s) store_size l, opened) h
 -- ---- what the answer tells of the store
 
 module _ (fixed : Bytes) where
-  pub refused_is : (x : Result Document) (r : Refusal) → OpenedIs x fixed (Opened.Refused r) → x ≡ refused r
+  pub refused_is : (x : Result Document) (r : Refusal) → OpenedIs x fixed (Err r) → x ≡ refused r
   refused_is (refused q) r h = let same : r ≡ q = cc in rw (← same)
   refused_is (accepted d) r h = let w = h.answer_is in let z : ◌≡◌ {A = ℕ} 0 1 = cc in absurd (omega arith)
 
-  pub opens_is : (x : Result Document) (n : ℕ) → OpenedIs x fixed (Opened.Rows n) → (x ≡ accepted (decode fixed)) × (n ≡ count_rows row_limit fixed)
+  pub opens_is : (x : Result Document) (n : ℕ) → OpenedIs x fixed (Ok n) → (x ≡ accepted (decode fixed)) × (n ≡ count_rows row_limit fixed)
   opens_is (refused q) n h = let z : ◌≡◌ {A = ℕ} 0 1 = cc in absurd (omega arith)
   opens_is (accepted d) n h = let w = h.answer_is in let same : n ≡ count_rows row_limit fixed = cc in (ap accepted h.document_is, same)
 
@@ -120,15 +121,15 @@ unfolding opened
 short_store store e = rw (e, opened)
 
 -- a store that opens is long enough
-pub opens_long : (store : Bytes) (n : ℕ) → OpenedIs (opened store) (take store_size store) (Opened.Rows n) → store_size ≤ length store
+pub opens_long : (store : Bytes) (n : ℕ) → OpenedIs (opened store) (take store_size store) (Ok n) → store_size ≤ length store
 opens_long store n h = go (ltb (length store) store_size) refl
   where
     go : (b : Bool) → ltb (length store) store_size ≡ b → store_size ≤ length store
-    go true e = let k = subst (λ (x : Result Document). OpenedIs x (take store_size store) (Opened.Rows n)) (short_store store e) h in let z : ◌≡◌ {A = ℕ} 0 1 = cc in absurd (omega arith)
+    go true e = let k = subst (λ (x : Result Document). OpenedIs x (take store_size store) (Ok n)) (short_store store e) h in let z : ◌≡◌ {A = ℕ} 0 1 = cc in absurd (omega arith)
     go false e = ltb-false (length store) store_size e
 
 -- the fixed size of a store that opens, and its rows
-module _ (store : Bytes) (n : ℕ) (h : OpenedIs (opened store) (take store_size store) (Opened.Rows n)) where
+module _ (store : Bytes) (n : ℕ) (h : OpenedIs (opened store) (take store_size store) (Ok n)) where
   pub fixed_size : length (take store_size store) ≡ store_size
   fixed_size = length-take-le store_size store (opens_long store n h)
 

@@ -1,8 +1,7 @@
 // 20, 21 and 22: what a store must be for judge, verdict and write.
 #![tactic(auto)]
 
-ghost use Rattle.std.specs.Prelude.{◌≡◌, not, ◌≤◌, length, take};
-ghost use Rattle.opening.specs.declared.Opened.{Opened};
+ghost use Rattle.std.specs.Prelude.{Err, ◌≡◌, not, ◌≤◌, length, take};
 ghost use Rattle.format.specs.Limits.{row_limit};
 ghost use Rattle.format.specs.Refusals.{refusal};
 ghost use Rattle.calls.specs.Layout.{store_size};
@@ -13,23 +12,12 @@ ghost use Rattle.opening.specs.Opening.{OpenedIs};
 use format::{Reason, Refusal};
 use seen::NUMBERS;
 use store::Store;
-use structure::Structure;
-
-// The store of a call: how many rows it has, or why it is refused.
-#[derive(Drop)]
-pub enum Opened {
-    Rows(u8),
-    Refused(Refusal),
-}
 
 // A refusal of the store, at line 0.
-pub fn refuse_store(reason: Reason) -> Opened
-    ensures { result ≡ Opened.Refused (refusal reason 0) }
+pub fn refuse_store(reason: Reason) -> Result<u8, Refusal>
+    ensures { result ≡ Err (refusal reason 0) }
 {
-    Opened::Refused(Refusal {
-        reason: reason,
-        line: 0,
-    })
+    Err(reason.at(0))
 }
 
 // 21: whether every byte is 0. Where the first is not, no other is looked at.
@@ -53,7 +41,7 @@ fn is_sound(fixed: &[u8], rows: u8) -> bool
 {
     if canonical::rows_canonical(fixed, rows) {
         let mut names = [0; NUMBERS];
-        let Structure::Sound = structure::tree_fault(fixed, rows, &mut names) else {
+        let Ok(()) = structure::tree_fault(fixed, rows, &mut names) else {
             return false;
         };
         return sound_lines::lines_sound(fixed, rows, &names);
@@ -63,7 +51,7 @@ fn is_sound(fixed: &[u8], rows: u8) -> bool
 
 // 21 and 22 of a store's fixed size.
 #[tactic(auto, using(crate::proofs::Opening::empty_refused, crate::proofs::Opening::unsound_refused, crate::proofs::Opening::store_opens, crate::proofs::Rulesets::open_fixed_facts))]
-fn open_fixed(fixed: &[u8]) -> Opened
+fn open_fixed(fixed: &[u8]) -> Result<u8, Refusal>
     requires { length fixed.now ≡ store_size }
     ensures { OpenedIs (opened_fixed fixed.now) fixed.now result }
 {
@@ -72,14 +60,14 @@ fn open_fixed(fixed: &[u8]) -> Opened
     }
     let rows = row_bytes::count_rows(fixed);
     if is_sound(fixed, rows) {
-        return Opened::Rows(rows);
+        return Ok(rows);
     }
     refuse_store(Reason::StoreUnsound)
 }
 
 // 20, 21 and 22 of a store, at the head of a slice.
 #[tactic(auto, using(crate::proofs::Opening::too_short_refused))]
-pub fn open(store: &[u8]) -> Opened
+pub fn open(store: &[u8]) -> Result<u8, Refusal>
     ensures { OpenedIs (opened store.now) (take store_size store.now) result }
 {
     if store.len() < Store::SIZE {

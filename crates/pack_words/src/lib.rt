@@ -6,7 +6,7 @@ ghost use Rattle.calls.specs.Answers.{verdict_answer};
 ghost use Rattle.calls.specs.Judging.{verdict_words};
 ghost use Rattle.packing.specs.Packing.{packed, word_bits, Lossless};
 
-use calls::{VerdictAnswer, VerdictStatus};
+use calls::VerdictAnswer;
 use packing::pack_refusal;
 
 // The five words, a bit each, above a byte of 0.
@@ -24,8 +24,8 @@ pub fn pack_verdict(answer: VerdictAnswer) -> u64
     let one_sync = words[4] as u64;
     let status = answer.status;
     match status {
-        VerdictStatus::Refused(refusal) => pack_refusal(refusal),
-        VerdictStatus::Given => {
+        Err(refusal) => pack_refusal(refusal),
+        Ok(()) => {
             256 * (one_shot + 2 * (one_to_one + 2 * (fan_out + 2 * (fan_in + 2 * one_sync))))
         }
     }

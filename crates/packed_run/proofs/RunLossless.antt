@@ -1,4 +1,5 @@
 -- Every answer of the run calls is packed without loss: refusals carry line 0, and at most so many threads are in use as may be.
+use Rattle.std.specs.Prelude.{Ok, Err}
 use Prim.Native.Nat.{ℕ}
 use native.Mathlib.Omega.{arith}
 use mathlib.Core.Bool.{Bool, true, false, not, ◌||◌}
@@ -19,7 +20,7 @@ use Rattle.calls.specs.Layout.{store_size, decode}
 use Rattle.machine.specs.declared.ThreadRecord.{ThreadRecord}
 use Rattle.machine.specs.Machine.{Change, Order, changes, changed_all, within}
 use Rattle.run_memory.specs.RunMemory.{machine_in, sound_run}
-use Rattle.run_calls.specs.declared.RunAnswer.{RunAnswer}
+use Rattle.run_calls.specs.RunCalls.{RunAnswer}
 use Rattle.run_calls.specs.RunCalls.{run_answer, RunOutcome, LeavesRun, too_short, not_begun, store_opened, run_opened, begun_in, begin_with, begin_on, begin, made, move_with, move_on}
 use Rattle.run_calls.proofs.Left.{within_told}
 use Rattle.packing.specs.Packing.{packed, number_bits, Lossless}
@@ -87,8 +88,8 @@ module _ (store run : Bytes) (lent : ℕ) (ts : List ThreadRecord) where
 -- so that what a caller reads in the number is the answer
 run_back : (a : RunAnswer) → Packs a → unpacked number_bits 1 (packed number_bits (run_answer a)) ≡ run_answer a
 unfolding run_answer
-run_back (RunAnswer.Threads n) h = values_back number_bits (n ∷ []) h
-run_back (RunAnswer.Refused r) h = refusal_back number_bits 1 r
+run_back (Ok n) h = values_back number_bits (n ∷ []) h
+run_back (Err r) h = refusal_back number_bits 1 r
 
 pub begin_read : (store run : Bytes) (ts : List ThreadRecord) → let a = run_answer (begin store run ts).answer in unpacked number_bits 1 (packed number_bits a) ≡ a
 begin_read store run ts = run_back (begin store run ts).answer (begin_lossless store run (length ts) ts)

@@ -34,8 +34,8 @@ fn pack_run(answer: RunAnswer) -> u64
     ensures { result ≡ packed number_bits (run_answer answer) }
 {
     match answer {
-        RunAnswer::Refused(refusal) => pack_refusal(refusal),
-        RunAnswer::Threads(threads) => 256 * (threads as u64),
+        Err(refusal) => pack_refusal(refusal),
+        Ok(threads) => 256 * (threads as u64),
     }
 }
 

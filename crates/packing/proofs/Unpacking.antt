@@ -1,4 +1,5 @@
 -- Packing loses nothing: the answer is read back from its number.
+use Rattle.std.specs.Prelude.{Ok, Err}
 use Prim.Native.Nat.{ℕ, zero, suc, ◌+◌, ◌*◌, ◌/◌, ◌%◌, ◌^◌, ◌<◌}
 use native.Mathlib.Omega.{arith}
 use native.Mathlib.Nat.{add_comm, mul_comm}
@@ -34,10 +35,9 @@ use Rattle.format.specs.declared.Reason.TheVariants.{
 }
 use Rattle.format.specs.declared.Refusal.{Refusal}
 use Rattle.format.specs.Refusals.{number}
-use Rattle.calls.specs.declared.LoadAnswer.{LoadAnswer}
-use Rattle.calls.specs.declared.JudgeAnswer.{JudgeAnswer}
-use Rattle.calls.specs.declared.WriteAnswer.{WriteAnswer}
-use Rattle.calls.specs.declared.VerdictStatus.{VerdictStatus}
+use Rattle.calls.specs.Answers.{LoadAnswer}
+use Rattle.calls.specs.Answers.{JudgeAnswer, VerdictStatus}
+use Rattle.calls.specs.Answers.{WriteAnswer}
 use Rattle.calls.specs.declared.VerdictAnswer.{VerdictAnswer}
 use Rattle.calls.specs.Answers.{Answer, turned_back, answered, refusal_answer, load_answer, judge_answer, write_answer, yes_or_no, status_answer, verdict_answer}
 use Rattle.packing.specs.Packing.{in_bits, packed, count_bits, word_bits, number_bits, Short, Lossless}
@@ -106,18 +106,18 @@ refusal_back bits k r =
 
 pub load_back : (a : LoadAnswer) → Lossless count_bits (load_answer a) → unpacked count_bits 4 (packed count_bits (load_answer a)) ≡ load_answer a
 unfolding load_answer
-load_back (LoadAnswer.Loaded c) h = values_back count_bits (c.rows ∷ c.flows ∷ c.comms ∷ c.claims ∷ []) h
-load_back (LoadAnswer.Refused r) h = refusal_back count_bits 4 r
+load_back (Ok c) h = values_back count_bits (c.rows ∷ c.flows ∷ c.comms ∷ c.claims ∷ []) h
+load_back (Err r) h = refusal_back count_bits 4 r
 
 pub judge_back : (a : JudgeAnswer) → Lossless number_bits (judge_answer a) → unpacked number_bits 1 (packed number_bits (judge_answer a)) ≡ judge_answer a
 unfolding judge_answer
-judge_back (JudgeAnswer.Accepted n) h = values_back number_bits (n ∷ []) h
-judge_back (JudgeAnswer.Refused r) h = refusal_back number_bits 1 r
+judge_back (Ok n) h = values_back number_bits (n ∷ []) h
+judge_back (Err r) h = refusal_back number_bits 1 r
 
 pub write_back : (a : WriteAnswer) → Lossless number_bits (write_answer a) → unpacked number_bits 1 (packed number_bits (write_answer a)) ≡ write_answer a
 unfolding write_answer
-write_back (WriteAnswer.Written n) h = values_back number_bits (n ∷ []) h
-write_back (WriteAnswer.Refused r) h = refusal_back number_bits 1 r
+write_back (Ok n) h = values_back number_bits (n ∷ []) h
+write_back (Err r) h = refusal_back number_bits 1 r
 
 pub verdict_back : (a : VerdictAnswer) (k : ℕ) → length a.words ≡ k → Lossless word_bits (verdict_answer a) → unpacked word_bits k (packed word_bits (verdict_answer a)) ≡ verdict_answer a
 unfolding verdict_answer status_answer
@@ -125,5 +125,5 @@ verdict_back a k e = go a.status
   where
     go : (s : VerdictStatus) → Lossless word_bits (status_answer s (map yes_or_no a.words))
         → unpacked word_bits k (packed word_bits (status_answer s (map yes_or_no a.words))) ≡ status_answer s (map yes_or_no a.words)
-    go VerdictStatus.Given h = rw (length-map a.words yes_or_no ∙ e) at (values_back word_bits (map yes_or_no a.words) h)
-    go (VerdictStatus.Refused r) h = refusal_back word_bits k r
+    go Ok tt h = rw (length-map a.words yes_or_no ∙ e) at (values_back word_bits (map yes_or_no a.words) h)
+    go (Err r) h = refusal_back word_bits k r

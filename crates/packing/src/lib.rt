@@ -29,8 +29,8 @@ pub fn pack_load(answer: LoadAnswer) -> u64
     ensures { result ≡ packed count_bits (load_answer answer) }
 {
     match answer {
-        LoadAnswer::Refused(refusal) => pack_refusal(refusal),
-        LoadAnswer::Loaded(counts) => {
+        Err(refusal) => pack_refusal(refusal),
+        Ok(counts) => {
             let rows = counts.rows as u64;
             let flows = counts.flows as u64;
             let comms = counts.comms as u64;
@@ -47,8 +47,8 @@ pub fn pack_judge(answer: JudgeAnswer) -> u64
     ensures { result ≡ packed number_bits (judge_answer answer) }
 {
     match answer {
-        JudgeAnswer::Refused(refusal) => pack_refusal(refusal),
-        JudgeAnswer::Accepted(count) => 256 * (count as u64),
+        Err(refusal) => pack_refusal(refusal),
+        Ok(count) => 256 * (count as u64),
     }
 }
 
@@ -59,7 +59,7 @@ pub fn pack_write(answer: WriteAnswer) -> u64
     ensures { result ≡ packed number_bits (write_answer answer) }
 {
     match answer {
-        WriteAnswer::Refused(refusal) => pack_refusal(refusal),
-        WriteAnswer::Written(length) => 256 * (length as u64),
+        Err(refusal) => pack_refusal(refusal),
+        Ok(length) => 256 * (length as u64),
     }
 }

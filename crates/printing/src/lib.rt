@@ -1,7 +1,7 @@
 // What a call answers, printed on standard output. Each function ends at the first write that fails, with its error.
 #![tactic(auto)]
 
-use calls::{JudgeAnswer, LoadAnswer, VerdictAnswer, VerdictStatus, WriteAnswer};
+use calls::{JudgeAnswer, LoadAnswer, VerdictAnswer, WriteAnswer};
 use format::Refusal;
 use std::io;
 use write_text::put_argument;
@@ -29,7 +29,7 @@ pub fn print_refusal(rt: &impl Print, refusal: Refusal) -> io::Result<()> {
 
 pub fn print_loaded(rt: &impl Print, answer: LoadAnswer) -> io::Result<()> {
     match answer {
-        LoadAnswer::Loaded(counts) => {
+        Ok(counts) => {
             rt.write_all(b"loaded")?;
             print_number(rt, counts.rows)?;
             print_number(rt, counts.flows)?;
@@ -37,20 +37,20 @@ pub fn print_loaded(rt: &impl Print, answer: LoadAnswer) -> io::Result<()> {
             print_number(rt, counts.claims)?;
             rt.write_all(b"\n")
         }
-        LoadAnswer::Refused(refusal) => print_refusal(rt, refusal),
+        Err(refusal) => print_refusal(rt, refusal),
     }
 }
 
 // The text itself where it was written, in lines of its own.
 pub fn print_written(rt: &impl Print, answer: WriteAnswer, out: &[u8]) -> io::Result<()> {
     match answer {
-        WriteAnswer::Written(n) => {
+        Ok(n) => {
             rt.write_all(b"written")?;
             print_number(rt, n)?;
             rt.write_all(b"\n")?;
             print_start(rt, n, out)
         }
-        WriteAnswer::Refused(refusal) => print_refusal(rt, refusal),
+        Err(refusal) => print_refusal(rt, refusal),
     }
 }
 
@@ -64,12 +64,12 @@ fn print_start(rt: &impl Print, n: usize, out: &[u8]) -> io::Result<()> {
 
 pub fn print_judged(rt: &impl Print, answer: JudgeAnswer) -> io::Result<()> {
     match answer {
-        JudgeAnswer::Accepted(n) => {
+        Ok(n) => {
             rt.write_all(b"accepted")?;
             print_number(rt, n)?;
             rt.write_all(b"\n")
         }
-        JudgeAnswer::Refused(refusal) => print_refusal(rt, refusal),
+        Err(refusal) => print_refusal(rt, refusal),
     }
 }
 
@@ -77,8 +77,8 @@ pub fn print_judged(rt: &impl Print, answer: JudgeAnswer) -> io::Result<()> {
 pub fn print_verdict(rt: &impl Print, answer: VerdictAnswer) -> io::Result<()> {
     let status = answer.status;
     match status {
-        VerdictStatus::Given => rt.write_all(b"given\n"),
-        VerdictStatus::Refused(refusal) => print_refusal(rt, refusal),
+        Ok(()) => rt.write_all(b"given\n"),
+        Err(refusal) => print_refusal(rt, refusal),
     }
 }
 
@@ -91,7 +91,7 @@ pub fn print_name(rt: &impl Print, name: &[u8]) -> io::Result<()> {
 // The bytes of a report.
 pub fn print_report(rt: &impl Print, answer: WriteAnswer, out: &[u8]) -> io::Result<()> {
     match answer {
-        WriteAnswer::Written(n) => print_start(rt, n, out),
-        WriteAnswer::Refused(refusal) => print_refusal(rt, refusal),
+        Ok(n) => print_start(rt, n, out),
+        Err(refusal) => print_refusal(rt, refusal),
     }
 }

@@ -3,7 +3,7 @@
 
 // A form is one of these fourteen, with exactly its own names and rows. Numbers are names, except
 // `body`, `child`, `left` and `right`, which are rows.
-#[derive(Clone, Copy)]
+#[derive(Clone, Copy, PartialEq, Eq)]
 pub enum Form {
     Unit,
     Chan,
@@ -55,7 +55,7 @@ pub enum Form {
 }
 
 // A bind holds one form and the row of the rest.
-#[derive(Drop)]
+#[derive(Clone, Copy, PartialEq, Eq)]
 pub struct Bind {
     pub name: u8,
     pub form: Form,
@@ -63,14 +63,14 @@ pub struct Bind {
 }
 
 // A row is a result or a bind.
-#[derive(Drop)]
+#[derive(Clone, Copy, PartialEq, Eq)]
 pub enum Row {
     Result(u8),
     Bind(Bind),
 }
 
 // The words of a claim.
-#[derive(Drop)]
+#[derive(Clone, Copy, PartialEq, Eq)]
 pub enum Word {
     OneShot,
     OneToOne,
@@ -82,14 +82,14 @@ pub enum Word {
 
 // What is found of the walks that come to some places: one that comes to two of them, one after the other, and two that
 // part at a spawn row and come to places.
-#[derive(Clone, Copy)]
+#[derive(Clone, Copy, PartialEq, Eq)]
 pub struct Ends {
     pub twice: bool,
     pub rivals: bool,
 }
 
 // What is found at the two ends of a channel: at its send places and at its receive places. Every word is told from this.
-#[derive(Clone, Copy)]
+#[derive(Clone, Copy, PartialEq, Eq)]
 pub struct Facts {
     pub sends: Ends,
     pub receives: Ends,

@@ -1,4 +1,5 @@
 -- Replace and preview are as specs/Replaced says: the store with the new set opens again, and differs from the old one in that set only.
+use Rattle.std.specs.Prelude.{Ok, Err}
 use Prim.Native.Nat.{ℕ, ◌+◌, ◌≤◌, ◌<◌}
 use native.Mathlib.Omega.{arith}
 use mathlib.Core.Bool.{Bool, true, false, not, ◌&&◌, So, false≢true}
@@ -24,7 +25,7 @@ use Rattle.format.specs.Refusals.{number, refusal, Result, refused, accepted}
 use Rattle.format.proofs.Order.{orderly_iff}
 use Rattle.format.proofs.Rising.{every_append, every_left, every_right}
 use Rattle.format.proofs.Structure.{other_tables, lines_allowed, orderly_of, faultless_of}
-use Rattle.calls.specs.declared.LoadAnswer.{LoadAnswer}
+use Rattle.calls.specs.Answers.{LoadAnswer}
 use Rattle.calls.specs.Answers.{turned_back, answered, refusal_answer, load_answer, judge_answer}
 use Rattle.calls.specs.Layout.{member_limit, store_size, flow_at, flags_of, encode}
 use Rattle.calls.specs.Judging.{flow_table}
@@ -132,10 +133,10 @@ module _ (store : Bytes) (d : Document) (e : opened store ≡ accepted d) (n : �
     unfolding replace and_then
     replace-stored = ap (λ (x : Result Document). stored store (and_then x (replacing n ms))) e
 
-    pub unbound_refused : is_bound d.rows n ≡ false → replace store n unit rows ≡ record { answer = LoadAnswer.Refused (refusal NotBound 0); bytes = store }
+    pub unbound_refused : is_bound d.rows n ≡ false → replace store n unit rows ≡ record { answer = Err (refusal NotBound 0); bytes = store }
     unbound_refused q = replace-stored ∙ ap (stored store) (replacing_unbound n ms d q) ∙ stored_refused store (refusal NotBound 0)
 
-    pub set_refused : So (is_bound d.rows n) → set_allowed d.rows ms ≡ false → replace store n unit rows ≡ record { answer = LoadAnswer.Refused (refusal SetNotAllowed 0); bytes = store }
+    pub set_refused : So (is_bound d.rows n) → set_allowed d.rows ms ≡ false → replace store n unit rows ≡ record { answer = Err (refusal SetNotAllowed 0); bytes = store }
     set_refused b q = replace-stored ∙ ap (stored store) (replacing_wrong n ms d b q) ∙ stored_refused store (refusal SetNotAllowed 0)
 
     module _ (bound : So (is_bound d.rows n)) (may : So (set_allowed d.rows ms)) where
@@ -194,19 +195,19 @@ module _ (store : Bytes) (n : ℕ) (unit : Bool) (rows : Bytes) where
   abbrev outcome : Outcome LoadAnswer
   outcome = replace store n unit rows
 
-  pub replace_closed : (r : Refusal) → opened store ≡ refused r → replace store n unit rows ≡ record { answer = LoadAnswer.Refused r; bytes = store }
+  pub replace_closed : (r : Refusal) → opened store ≡ refused r → replace store n unit rows ≡ record { answer = Err r; bytes = store }
   unfolding replace and_then
   replace_closed r e = ap (λ (x : Result Document). stored store (and_then x (replacing n (members_of unit rows)))) e ∙ stored_refused store r
 
   -- what replace finds
   data Found : Outcome LoadAnswer → Type 0 where
-    turns : {r : Refusal} → ReplaceIs store n unit rows (refusal_answer r) → Found (record { answer = LoadAnswer.Refused r; bytes = store })
+    turns : {r : Refusal} → ReplaceIs store n unit rows (refusal_answer r) → Found (record { answer = Err r; bytes = store })
     does : (d d' : Document) → StoreHolds store d → So (is_bound d.rows n) → MayBeSet d rows → Replaced store n unit rows d d' → Found (stored store (accepted d'))
 
   found : Found outcome
   found = go (opened store) refl
     where
-      left : (r : Refusal) → outcome ≡ record { answer = LoadAnswer.Refused r; bytes = store } → outcome.bytes ≡ store
+      left : (r : Refusal) → outcome ≡ record { answer = Err r; bytes = store } → outcome.bytes ≡ store
       left r q = ap (λ (o : Outcome LoadAnswer). o.bytes) q
 
       open_store : (d : Document) → opened store ≡ accepted d → (a b : Bool) → is_bound d.rows n ≡ a → set_allowed d.rows (members_of unit rows) ≡ b → Found outcome
@@ -243,7 +244,7 @@ module _ (store : Bytes) (n : ℕ) (unit : Bool) (rows : Bytes) where
       go : (o : Outcome LoadAnswer) → Found o → load_answer o.answer ≡ turned_back number line → o.bytes ≡ store
       go o (turns h) e = refl
       go o (does d d' h b k r) e =
-          let q : load_answer (LoadAnswer.Loaded (counts d')) ≡ turned_back number line = ap (λ (o : Outcome LoadAnswer). load_answer o.answer) (sym (stored_is store d')) ∙ e in
+          let q : load_answer (Ok (counts d')) ≡ turned_back number line = ap (λ (o : Outcome LoadAnswer). load_answer o.answer) (sym (stored_is store d')) ∙ e in
           let z : ◌≡◌ {A = ℕ} 0 1 = cc in
           absurd (omega arith)
 
@@ -253,16 +254,16 @@ module _ (store : Bytes) (n : ℕ) (unit : Bool) (rows : Bytes) where
   preview_judges ns = go outcome.answer
     where
       go : (a : LoadAnswer) → load_answer a ≡ answered ns → judge_left a outcome.bytes ≡ judge outcome.bytes
-      go (LoadAnswer.Loaded c) e = refl
-      go (LoadAnswer.Refused r) e = let z : ◌≡◌ {A = ℕ} 0 1 = cc in absurd (omega arith)
+      go (Ok c) e = refl
+      go (Err r) e = let z : ◌≡◌ {A = ℕ} 0 1 = cc in absurd (omega arith)
 
   pub preview_refuses : (number line : ℕ) → load_answer outcome.answer ≡ turned_back number line → judge_answer (preview store n unit rows) ≡ turned_back number line
   unfolding preview judge_left load_answer judge_answer refusal_answer
   preview_refuses number line = go outcome.answer
     where
       go : (a : LoadAnswer) → load_answer a ≡ turned_back number line → judge_answer (judge_left a outcome.bytes) ≡ turned_back number line
-      go (LoadAnswer.Loaded c) e = let z : ◌≡◌ {A = ℕ} 0 1 = cc in absurd (omega arith)
-      go (LoadAnswer.Refused r) e = e
+      go (Ok c) e = let z : ◌≡◌ {A = ℕ} 0 1 = cc in absurd (omega arith)
+      go (Err r) e = e
 
   pub preview_exact : PreviewIs store n unit rows (judge_answer (preview store n unit rows))
   unfolding preview
@@ -271,7 +272,7 @@ module _ (store : Bytes) (n : ℕ) (unit : Bool) (rows : Bytes) where
       judged : (d d' : Document) → StoreHolds store d → So (is_bound d.rows n) → MayBeSet d rows → Replaced store n unit rows d d' → outcome ≡ stored store (accepted d')
           → PreviewIs store n unit rows (judge_answer (judge_left outcome.answer outcome.bytes))
       judged d d' h b k r q =
-          let answer : outcome.answer ≡ LoadAnswer.Loaded (counts d') = ap (λ (o : Outcome LoadAnswer). o.answer) (q ∙ stored_is store d') in
+          let answer : outcome.answer ≡ Ok (counts d') = ap (λ (o : Outcome LoadAnswer). o.answer) (q ∙ stored_is store d') in
           subst (λ (a : LoadAnswer). PreviewIs store n unit rows (judge_answer (judge_left a outcome.bytes))) (sym answer)
           (unfold judge_left in PreviewIs.judges d d' h b k r (judge_answers outcome.bytes))
 

@@ -2,6 +2,7 @@
 --   replace   `opened` of calls, then `replacing`, then `stored` of calls   (20, 21, 22; 32, 33)
 --   preview   judge of the bytes that replace leaves                        (20, 21, 22; 32, 33; 10, 11)
 -- The contract of each public function is equality with its definition here; by `Leaves` of calls, for the answer and the lent bytes.
+use Rattle.std.specs.Prelude.{Ok, Err}
 use Rattle.std.specs.Prelude.{ℕ, suc, Bool, true, false, ◌&&◌, List, [], ◌∷◌, ◌++◌, map, ltb}
 use Rattle.program.specs.Test.{pick}
 use Rattle.program.specs.Each.{every, collect, elem}
@@ -12,9 +13,8 @@ use Rattle.format.specs.Refusals.{refusal, Result, refused, accepted}
 use Rattle.format.specs.Document.{Entry, Document, with_tables}
 use Rattle.format.specs.Read.{rising}
 use Rattle.format.specs.Structure.{member_allowed}
-use Rattle.calls.specs.declared.LoadAnswer.{LoadAnswer}
-use Rattle.calls.specs.declared.LoadAnswer.TheVariants as load
-use Rattle.calls.specs.declared.JudgeAnswer.{JudgeAnswer}
+use Rattle.calls.specs.Answers.{LoadAnswer}
+use Rattle.calls.specs.Answers.{JudgeAnswer}
 use Rattle.calls.specs.Layout.{with_entry}
 use Rattle.calls.specs.Calls.{Outcome, opened, and_then, stored, judge}
 
@@ -57,8 +57,8 @@ replace store n unit rows = stored store (and_then (opened store) (replacing n (
 
 -- judge of the bytes that a call left, or its refusal
 unfoldable pub judge_left : LoadAnswer → Bytes → JudgeAnswer
-judge_left (load.Loaded c) left = judge left
-judge_left (load.Refused r) left = JudgeAnswer.Refused r
+judge_left (Ok c) left = judge left
+judge_left (Err r) left = Err r
 
 -- "a preview, which answers what judge would answer on a copy so replaced and leaves the store unaltered": the contract has the latter, by `unaltered` of calls
 unfoldable pub preview : Bytes → ℕ → Bool → Bytes → JudgeAnswer

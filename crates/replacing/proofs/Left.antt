@@ -1,4 +1,5 @@
 -- A store of which a name's set was swapped with one that may be there: it is the store that replace leaves, and swapped once more it is as it was.
+use Rattle.std.specs.Prelude.{Ok}
 use Prim.Native.Nat.{ℕ, ◌+◌, ◌<◌, ◌≤◌}
 use native.Mathlib.Omega.{arith}
 use mathlib.Core.Bool.{Bool, So}
@@ -13,7 +14,7 @@ use Rattle.format.specs.Refusals.{accepted}
 use Rattle.format.specs.Document.{Document}
 use Rattle.format.specs.WellFormed.{well_formed}
 use Rattle.format.proofs.Structure.{orderly_of}
-use Rattle.calls.specs.declared.LoadAnswer.{LoadAnswer}
+use Rattle.calls.specs.Answers.{LoadAnswer}
 use Rattle.calls.specs.Layout.{member_limit, store_size, flow_at, decode}
 use Rattle.calls.specs.Canonical.{count_rows}
 use Rattle.calls.specs.Calls.{Outcome, opened, counts}
@@ -81,7 +82,7 @@ module _ {store : Bytes} {n : ℕ} {unit : Bool} {list set : Bytes} {rows : ℕ}
     pub left_counted : rows ≡ count_rows row_limit (take store_size left)
     left_counted = left_rows ∙ ap (λ (x : Document). length x.rows) (sym left_document) ∙ sym (counted_rows (take store_size left))
 
-    pub left_answer : (replace store n unit list).answer ≡ LoadAnswer.Loaded (counts d')
+    pub left_answer : (replace store n unit list).answer ≡ Ok (counts d')
     left_answer = ap (λ (o : Outcome LoadAnswer). o.answer) (replace_done store d opens n unit list h.bound h.allowed ∙ stored_is store d')
 
     -- it can be swapped back

@@ -1,4 +1,5 @@
 -- What the marks of bound names and of allowed members tell of a store that opens.
+use Rattle.std.specs.Prelude.{Ok, Err}
 use Prim.Native.Nat.{ℕ, suc, ◌+◌, ◌≤◌}
 use native.Mathlib.Omega.{arith}
 use native.Mathlib.Numerals.{add-one}
@@ -16,7 +17,7 @@ use Rattle.format.specs.Text.{Bytes, byte_at}
 use Rattle.format.specs.Refusals.{refusal, accepted}
 use Rattle.format.specs.Read.{rising}
 use Rattle.format.specs.Structure.{member_allowed}
-use Rattle.calls.specs.declared.LoadAnswer.{LoadAnswer}
+use Rattle.calls.specs.Answers.{LoadAnswer}
 use Rattle.calls.specs.Layout.{store_size, decode}
 use Rattle.calls.specs.Calls.{opened}
 use Rattle.calls.proofs.Canonical.Rows.{count_rows-le}
@@ -27,7 +28,7 @@ use Rattle.store.specs.Rows.{store_program}
 use Rattle.store.proofs.Document.{rows_decode}
 use Rattle.seen.specs.Flags.{flag, Tells}
 use Rattle.seen.specs.Seen.{Marks}
-use Rattle.opening.specs.declared.Opened.{Opened}
+use Rattle.opening.specs.Opening.{Opened}
 use Rattle.opening.specs.Opening.{OpenedIs}
 use Rattle.opening.proofs.Opening.{refused_is, opens_is}
 use Rattle.handed_sets.specs.Handed.{list_allowed, Marked}
@@ -54,16 +55,16 @@ module _ (p : Program) (allowed : Bytes) (t : Tells (member_allowed p) allowed) 
 
 -- a call that is refused
 abbrev Turned : Bytes → ℕ → Bool → Bytes → Refusal → Type 0
-Turned store n unit list r = replace store n unit list ≡ record { answer = LoadAnswer.Refused r; bytes = store }
+Turned store n unit list r = replace store n unit list ≡ record { answer = Err r; bytes = store }
 
 module _ (store : Bytes) where
   abbrev fixed : Bytes
   fixed = take store_size store
 
-  pub store_refused : (n : ℕ) (unit : Bool) (list : Bytes) (r : Refusal) → OpenedIs (opened store) fixed (Opened.Refused r) → Turned store n unit list r
+  pub store_refused : (n : ℕ) (unit : Bool) (list : Bytes) (r : Refusal) → OpenedIs (opened store) fixed (Err r) → Turned store n unit list r
   store_refused n unit list r h = replace_closed store n unit list r (refused_is fixed (opened store) r h)
 
-  module _ (rows : ℕ) (h : OpenedIs (opened store) fixed (Opened.Rows rows)) where
+  module _ (rows : ℕ) (h : OpenedIs (opened store) fixed (Ok rows)) where
     opens : opened store ≡ accepted (decode fixed)
     opens = (opens_is fixed (opened store) rows h).0
 

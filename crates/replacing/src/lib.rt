@@ -7,18 +7,18 @@ ghost use Rattle.format.specs.Limits.{row_limit};
 ghost use Rattle.calls.specs.Layout.{member_limit, store_size, flow_at};
 ghost use Rattle.replacing.specs.Replacing.{ReplaceableIs};
 
-use format::Reason;
-use opening::{Opened, refuse_store};
+use format::{Reason, Refusal};
+use opening::refuse_store;
 use store::Store;
 
 // 20 to 22 of a store, 32 of a name, 33 of a set that is handed over. Where there is none of them, marks the set and answers how many rows the store has.
-pub fn replaceable(store: &[u8], name: usize, unit: bool, list: &[u8], set: &mut [u8]) -> Opened
+pub fn replaceable(store: &[u8], name: usize, unit: bool, list: &[u8], set: &mut [u8]) -> Result<u8, Refusal>
     requires { set.old ≡ replicate member_limit 0 }
     ensures { ReplaceableIs store.now name unit list.now set.new result }
 {
     match opening::open(store) {
-        Opened::Refused(refusal) => Opened::Refused(refusal),
-        Opened::Rows(rows) => {
+        Err(refusal) => Err(refusal),
+        Ok(rows) => {
             let fixed = &store[..Store::SIZE];
             let marks = binders::bound(fixed, rows);
             if read_text::byte_at(&marks, name) == 0 {
@@ -26,7 +26,7 @@ pub fn replaceable(store: &[u8], name: usize, unit: bool, list: &[u8], set: &mut
             }
             let members = allowed_lines::allowed_members(fixed, rows);
             if handed_sets::mark_members(unit, list, &members, set) {
-                return Opened::Rows(rows);
+                return Ok(rows);
             }
             refuse_store(Reason::SetNotAllowed)
         }

@@ -1,4 +1,5 @@
 -- The report of a file: no longer than `report_limit`, and put together from what load, judge and verdict answer.
+use Rattle.std.specs.Prelude.{Ok, Err}
 use Prim.Native.Nat.{ℕ, zero, suc, ◌+◌, ◌*◌, ◌≤◌, ◌<◌}
 use native.Mathlib.Omega.{arith}
 use mathlib.Core.Bool.{Bool, true, false, So}
@@ -21,12 +22,8 @@ use Rattle.format.specs.WellFormed.{orderly, well_formed}
 use Rattle.format.specs.Check.{check}
 use Rattle.format.proofs.Files.{check_iff}
 use Rattle.format.proofs.Lengths.{pick-length, argument-length, argument_short}
-use Rattle.calls.specs.declared.LoadAnswer.{LoadAnswer}
-use Rattle.calls.specs.declared.LoadAnswer.TheVariants as load
-use Rattle.calls.specs.declared.JudgeAnswer.{JudgeAnswer}
-use Rattle.calls.specs.declared.JudgeAnswer.TheVariants as judge
-use Rattle.calls.specs.declared.VerdictStatus.{VerdictStatus}
-use Rattle.calls.specs.declared.VerdictStatus.TheVariants as verdict
+use Rattle.calls.specs.Answers.{LoadAnswer}
+use Rattle.calls.specs.Answers.{JudgeAnswer, VerdictStatus}
 use Rattle.calls.specs.declared.VerdictAnswer.{VerdictAnswer}
 use Rattle.calls.specs.Layout.{store_size, counting, encode, decode}
 use Rattle.calls.specs.Judging.{verdict_words, word_holds, reaches, failing_row, failing_claim, after10, judge_claims, judge_document, verdict_document}
@@ -98,21 +95,21 @@ report_short file = go (check file) refl
 
 -- the line of row c, by the answer of verdict: nothing where it is refused
 unfoldable pub status_line : ℕ → VerdictStatus → List Bool → Bytes
-status_line c verdict.Given words = channel_text c words
-status_line c (verdict.Refused r) words = []
+status_line c (Ok tt) words = channel_text c words
+status_line c (Err r) words = []
 
 unfoldable pub verdict_line : ℕ → VerdictAnswer → Bytes
 verdict_line c v = status_line c v.status v.words
 
 -- the text by the answer of judge on a store with so many rows, and those of verdict on the same store
 unfoldable pub judge_text : Bytes → ℕ → JudgeAnswer → Bytes
-judge_text store rows (judge.Refused r) = refused_text r
-judge_text store rows (judge.Accepted n) = accepted_text n ++ collect (λ c. verdict_line c (verdict store c)) (counting rows 0 λ c. c)
+judge_text store rows (Err r) = refused_text r
+judge_text store rows (Ok n) = accepted_text n ++ collect (λ c. verdict_line c (verdict store c)) (counting rows 0 λ c. c)
 
 -- the text by the answer of load, and those of the other calls on the store that load leaves
 unfoldable pub load_text : Bytes → LoadAnswer → Bytes
-load_text store (load.Refused r) = refused_text r
-load_text store (load.Loaded c) = judge_text store c.rows (judge store)
+load_text store (Err r) = refused_text r
+load_text store (Ok c) = judge_text store c.rows (judge store)
 
 -- judge accepts only where every row keeps its rule
 no_row_fails : (d : Document) (n : ℕ) → judge_document d ≡ accepted n → failing_row d ≡ none

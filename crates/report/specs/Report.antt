@@ -1,4 +1,5 @@
 -- "The program prints claims held, then each chan row with its verdict, rows rising; refused, only `[refused NUMBER LINE]`": the text of a file's report, and the call that writes it.
+use Rattle.std.specs.Prelude.{Ok, Err}
 use Rattle.std.specs.Prelude.{ℕ, suc, ◌*◌, Bool, true, false, List, [], ◌∷◌, ◌++◌, map, ◌≡◌, length, drop, ltb}
 use Rattle.program.specs.Each.{collect}
 use Rattle.program.specs.Test.{pick}
@@ -10,7 +11,7 @@ use Rattle.format.specs.Text.{Bytes, ascii, argument}
 use Rattle.format.specs.Refusals.{number, refusal, Result, refused, accepted}
 use Rattle.format.specs.Document.{Document}
 use Rattle.format.specs.Check.{check}
-use Rattle.calls.specs.declared.WriteAnswer.{WriteAnswer}
+use Rattle.calls.specs.Answers.{WriteAnswer}
 use Rattle.calls.specs.Layout.{store_size, counting}
 use Rattle.calls.specs.Judging.{verdict_words, word_holds, reaches, judge_document}
 use Rattle.calls.specs.Calls.{load}
@@ -90,9 +91,9 @@ pub record LeavesReport (o : Reporting) (answer : WriteAnswer) (store out : Byte
 unfoldable pub reported : Bytes → Bytes → Bytes → Reporting
 reported file store out =
     elim (ltb (length store) store_size) [
-      | true ↦ record { answer = WriteAnswer.Refused (refusal StoreTooShort 0); store = store; out = out }
+      | true ↦ record { answer = Err (refusal StoreTooShort 0); store = store; out = out }
       | false ↦ elim (ltb (length out) report_limit) [
-        | true ↦ record { answer = WriteAnswer.Refused (refusal OutputTooShort 0); store = store; out = out }
-        | false ↦ record { answer = WriteAnswer.Written (length (report file)); store = (load file store).bytes; out = report file ++ drop (length (report file)) out }
+        | true ↦ record { answer = Err (refusal OutputTooShort 0); store = store; out = out }
+        | false ↦ record { answer = Ok (length (report file)); store = (load file store).bytes; out = report file ++ drop (length (report file)) out }
       ]
     ]

@@ -1,4 +1,5 @@
 -- The report of a store and of a file: which text it is, that its numbers have two bytes, and that it has room.
+use Rattle.std.specs.Prelude.{Ok, Err}
 use Prim.Native.Nat.{ℕ, ◌+◌, ◌≤◌, ◌<◌}
 use native.Mathlib.Omega.{arith}
 use mathlib.Core.List.{[], ◌∷◌, ◌++◌}
@@ -14,9 +15,9 @@ use Rattle.format.specs.Refusals.{number, refusal, Result, refused, accepted}
 use Rattle.format.specs.Document.{Document}
 use Rattle.format.proofs.Files.{check_iff}
 use Rattle.calls.specs.declared.Counts.{Counts}
-use Rattle.calls.specs.declared.LoadAnswer.{LoadAnswer}
-use Rattle.calls.specs.declared.JudgeAnswer.{JudgeAnswer}
-use Rattle.calls.specs.declared.WriteAnswer.{WriteAnswer}
+use Rattle.calls.specs.Answers.{LoadAnswer}
+use Rattle.calls.specs.Answers.{JudgeAnswer}
+use Rattle.calls.specs.Answers.{WriteAnswer}
 use Rattle.calls.specs.Answers.{turned_back, answered, refusal_answer, load_answer, judge_answer}
 use Rattle.calls.specs.Layout.{store_size, decode}
 use Rattle.calls.specs.Judging.{judge_document}
@@ -27,7 +28,7 @@ use Rattle.calls.proofs.Calls.{loaded_is, opened_loaded, judge-opened}
 use Rattle.report.proofs.Report.{load_text, refused_short, judged_short, report_short, report_calls}
 use Rattle.write_bytes.specs.Write.{Room, Wrote}
 use Rattle.write_bytes.proofs.Progress.{at_head}
-use Rattle.opening.specs.declared.Opened.{Opened}
+use Rattle.opening.specs.Opening.{Opened}
 use Rattle.opening.specs.Opening.{OpenedIs}
 use Rattle.opening.proofs.Opening.{refused_is, opens_is, counted}
 use Rattle.judging.proofs.Documents.{few_rows}
@@ -60,7 +61,7 @@ module _ (store : Bytes) where
   abbrev fixed : Bytes
   fixed = take store_size store
 
-  module _ (r : Refusal) (h : OpenedIs (opened store) fixed (Opened.Refused r)) where
+  module _ (r : Refusal) (h : OpenedIs (opened store) fixed (Err r)) where
     closed : opened store ≡ refused r
     closed = refused_is fixed (opened store) r h
 
@@ -75,7 +76,7 @@ module _ (store : Bytes) where
     unfolding checked_text
     closed_text = rw closed
 
-  module _ (n : ℕ) (h : OpenedIs (opened store) fixed (Opened.Rows n)) where
+  module _ (n : ℕ) (h : OpenedIs (opened store) fixed (Ok n)) where
     few : length (decode fixed).rows ≤ row_limit
     few = let e = counted store n h in omega (arith, row_count n fixed e, few_rows n fixed e)
 
@@ -86,46 +87,46 @@ module _ (store : Bytes) where
     document = (opens_is fixed (opened store) n h).0
 
     module _ {a : JudgeAnswer} (e : a ≡ judge_answered (judge_document (decode fixed))) where
-      pub judged_line : (r : Refusal) → a ≡ JudgeAnswer.Refused r → r.line < 65536
+      pub judged_line : (r : Refusal) → a ≡ Err r → r.line < 65536
       unfolding judge_answer refusal_answer
       judged_line r t =
-          let q : judge store ≡ JudgeAnswer.Refused r = judge-opened store (decode fixed) document ∙ sym e ∙ t in
+          let q : judge store ≡ Err r = judge-opened store (decode fixed) document ∙ sym e ∙ t in
           omega (arith, line_small last_line (number r.reason) r.line (rw q at (judge_within store)))
 
-      pub judged_count : (k : ℕ) → a ≡ JudgeAnswer.Accepted k → k < 65536
+      pub judged_count : (k : ℕ) → a ≡ Ok k → k < 65536
       unfolding judge_answer
       judged_count k t =
-          let q : judge store ≡ JudgeAnswer.Accepted k = judge-opened store (decode fixed) document ∙ sym e ∙ t in
+          let q : judge store ≡ Ok k = judge-opened store (decode fixed) document ∙ sym e ∙ t in
           omega (arith, value_small row_limit k (rw q at (judge_within store)))
 
-      pub judged_refused : (r : Refusal) → a ≡ JudgeAnswer.Refused r → checked_text (opened store) ≡ refused_text r
+      pub judged_refused : (r : Refusal) → a ≡ Err r → checked_text (opened store) ≡ refused_text r
       unfolding checked_text judged_text judge_answered
       judged_refused r t = rw document (go (judge_document (decode fixed)) (sym e ∙ t))
         where
-          go : (x : Result ℕ) → judge_answered x ≡ JudgeAnswer.Refused r → judged_text (decode fixed) x ≡ refused_text r
+          go : (x : Result ℕ) → judge_answered x ≡ Err r → judged_text (decode fixed) x ≡ refused_text r
           go (refused q) u = let k : q ≡ r = cc in rw k
           go (accepted m) u = let z : ◌≡◌ {A = ℕ} 0 1 = cc in absurd (omega arith)
 
-      pub judged_accepted : (k : ℕ) → a ≡ JudgeAnswer.Accepted k → checked_text (opened store) ≡ accepted_text k ++ channel_lines (decode fixed)
+      pub judged_accepted : (k : ℕ) → a ≡ Ok k → checked_text (opened store) ≡ accepted_text k ++ channel_lines (decode fixed)
       unfolding checked_text judged_text judge_answered
       judged_accepted k t = rw document (go (judge_document (decode fixed)) (sym e ∙ t))
         where
-          go : (x : Result ℕ) → judge_answered x ≡ JudgeAnswer.Accepted k → judged_text (decode fixed) x ≡ accepted_text k ++ channel_lines (decode fixed)
+          go : (x : Result ℕ) → judge_answered x ≡ Ok k → judged_text (decode fixed) x ≡ accepted_text k ++ channel_lines (decode fixed)
           go (refused q) u = let z : ◌≡◌ {A = ℕ} 0 1 = cc in absurd (omega arith)
           go (accepted m) u = let same : m ≡ k = cc in rw same
 
 -- ---- a file
 
 module _ (file store : Bytes) where
-  pub load_line : (r : Refusal) → LoadAnswer.Refused r ≡ (load file store).answer → r.line < 65536
+  pub load_line : (r : Refusal) → Err r ≡ (load file store).answer → r.line < 65536
   unfolding load_answer refusal_answer
   load_line r e = omega (arith, line_small (byte_limit + 2) (number r.reason) r.line (rw (← e) at (load_within file store)))
 
-  pub refused_report : (r : Refusal) → store_size ≤ length store → LoadAnswer.Refused r ≡ (load file store).answer → report file ≡ refused_text r
+  pub refused_report : (r : Refusal) → store_size ≤ length store → Err r ≡ (load file store).answer → report file ≡ refused_text r
   unfolding load_text
   refused_report r long e = report_calls file store long ∙ rw (← e)
 
-  pub loaded_report : (c : Counts) → LoadAnswer.Loaded c ≡ (load file store).answer → {stored : Bytes} → stored ≡ (load file store).bytes → report file ≡ checked_text (opened stored)
+  pub loaded_report : (c : Counts) → Ok c ≡ (load file store).answer → {stored : Bytes} → stored ≡ (load file store).bytes → report file ≡ checked_text (opened stored)
   unfolding report
   loaded_report c e t =
       let (d, q, w, s, k, m) = loaded_is file store c (sym e) in
@@ -134,19 +135,19 @@ module _ (file store : Bytes) where
   -- ---- the call
 
   module _ (out : Bytes) where
-    pub store_short : length store < store_size → LeavesReport (reported file store out) (WriteAnswer.Refused (refusal StoreTooShort 0)) store out
+    pub store_short : length store < store_size → LeavesReport (reported file store out) (Err (refusal StoreTooShort 0)) store out
     unfolding reported
     store_short h = rw (lt-ltb (length store) store_size h, reported) (record { answer_is = refl; store_is = refl; out_is = refl })
 
-    pub out_short : store_size ≤ length store → length out < report_limit → LeavesReport (reported file store out) (WriteAnswer.Refused (refusal OutputTooShort 0)) store out
+    pub out_short : store_size ≤ length store → length out < report_limit → LeavesReport (reported file store out) (Err (refusal OutputTooShort 0)) store out
     unfolding reported
     out_short l h = rw (le-ltb (length store) store_size l, lt-ltb (length out) report_limit h, reported) (record { answer_is = refl; store_is = refl; out_is = refl })
 
     pub report_written : store_size ≤ length store → report_limit ≤ length out → {next : ℕ} {stored left : Bytes} → stored ≡ (load file store).bytes → Wrote out 0 (report file) next left
-        → LeavesReport (reported file store out) (WriteAnswer.Written next) stored left
+        → LeavesReport (reported file store out) (Ok next) stored left
     unfolding reported
     report_written l h {next} s w =
         let n : next ≡ length (report file) = omega (arith, w.next_is) in
         let fits : length (report file) ≤ length out = omega (arith, report_short file) in
         rw (le-ltb (length store) store_size l, le-ltb (length out) report_limit h, reported)
-        (record { answer_is = ap WriteAnswer.Written n; store_is = s; out_is = at_head w fits })
+        (record { answer_is = ap Ok n; store_is = s; out_is = at_head w fits })

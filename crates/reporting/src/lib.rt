@@ -1,35 +1,33 @@
 // What the program prints of a file, written into lent bytes: the count of its claims and each channel's verdict, or its refusal.
 #![tactic(auto)]
 
-ghost use Rattle.std.specs.Prelude.{◌≤◌, length, take, ◌≡◌};
+ghost use Rattle.std.specs.Prelude.{Ok, ◌≤◌, length, take, ◌≡◌};
 ghost use Rattle.calls.specs.Layout.{store_size};
 ghost use Rattle.calls.specs.Calls.{opened};
 ghost use Rattle.report.specs.Report.{checked_text, report, report_limit, LeavesReport, reported};
 ghost use Rattle.write_bytes.specs.Write.{Wrote};
-ghost use Rattle.opening.specs.declared.Opened.{Opened};
 ghost use Rattle.opening.specs.Opening.{OpenedIs};
 ghost use Rattle.reporting.specs.Reports.{FileReported};
 
-use calls::{JudgeAnswer, LoadAnswer, WriteAnswer};
+use calls::WriteAnswer;
 use channel_lines::put_channels;
-use format::{Reason, Refusal};
+use format::Reason;
 use grids::GRID;
 use lent_sizes::REPORT_BYTES;
-use opening::Opened;
 use report_lines::{put_accepted, put_refused};
 use store::Store;
 
 // Writes the report of a store that opens, with so many rows: what judging it gives.
 fn put_judged(out: &mut [u8], store: &[u8], rows: u8) -> usize
-    requires opened_is { OpenedIs (opened store.now) (take store_size store.now) (Opened.Rows rows) }
+    requires opened_is { OpenedIs (opened store.now) (take store_size store.now) (Ok rows) }
     requires report_limit_in_bounds { report_limit ≤ length out.old }
     ensures { Wrote out.old 0 (checked_text (opened store.now)) result out.new }
 {
     let fixed = &store[..Store::SIZE];
     let mut grid = [0u8; GRID];
     match judging::judge_store(fixed, rows, &mut grid) {
-        JudgeAnswer::Refused(refusal) => put_refused(out, 0, refusal),
-        JudgeAnswer::Accepted(claims) => {
+        Err(refusal) => put_refused(out, 0, refusal),
+        Ok(claims) => {
             let count = claims as u16;
             let next = put_accepted(out, 0, count);
             put_channels(out, next, fixed, rows, &grid)
@@ -43,8 +41,8 @@ fn put_store(out: &mut [u8], store: &[u8]) -> usize
     ensures { Wrote out.old 0 (checked_text (opened store.now)) result out.new }
 {
     match opening::open(store) {
-        Opened::Refused(refusal) => put_refused(out, 0, refusal),
-        Opened::Rows(rows) => put_judged(out, store, rows),
+        Err(refusal) => put_refused(out, 0, refusal),
+        Ok(rows) => put_judged(out, store, rows),
     }
 }
 
@@ -55,8 +53,8 @@ fn put_file(file: &[u8], store: &mut [u8], out: &mut [u8]) -> usize
     ensures { FileReported file.now store.old out.old result store.new out.new }
 {
     match call_load::load(file, store) {
-        LoadAnswer::Refused(refusal) => put_refused(out, 0, refusal),
-        LoadAnswer::Loaded(_) => put_store(out, store),
+        Err(refusal) => put_refused(out, 0, refusal),
+        Ok(_) => put_store(out, store),
     }
 }
 
@@ -65,17 +63,11 @@ pub fn report(file: &[u8], store: &mut [u8], out: &mut [u8]) -> WriteAnswer
     ensures { LeavesReport (reported file.now store.old out.old) result store.new out.new }
 {
     if store.len() < Store::SIZE {
-        return WriteAnswer::Refused(Refusal {
-            reason: Reason::StoreTooShort,
-            line: 0,
-        });
+        return Err(Reason::StoreTooShort.at(0));
     }
     if out.len() < REPORT_BYTES {
-        return WriteAnswer::Refused(Refusal {
-            reason: Reason::OutputTooShort,
-            line: 0,
-        });
+        return Err(Reason::OutputTooShort.at(0));
     }
     let length = put_file(file, store, out);
-    WriteAnswer::Written(length)
+    Ok(length)
 }

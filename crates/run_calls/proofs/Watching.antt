@@ -1,4 +1,5 @@
 -- The run calls do what the machine does: after beginning and any moves, run memory and records hold the machine that the same moves leave.
+use Rattle.std.specs.Prelude.{Ok}
 use Prim.Native.Nat.{ℕ, ◌≤◌, ◌<◌}
 use native.Mathlib.Omega.{arith}
 use mathlib.Core.Bool.{Bool, true, false, So}
@@ -33,7 +34,7 @@ use Rattle.machine.proofs.Watched.{left_refused, left_accepted}
 use Rattle.run_memory.specs.declared.InUse.{InUse}
 use Rattle.run_memory.specs.RunMemory.{run_size, in_use, counts, machine_in, within_limits, sound_run}
 use Rattle.run_memory.proofs.Codec.{begun, counted-in_use, length-counted}
-use Rattle.run_calls.specs.declared.RunAnswer.{RunAnswer}
+use Rattle.run_calls.specs.RunCalls.{RunAnswer}
 use Rattle.run_calls.specs.RunCalls.{run_answer, RunOutcome, Lends, too_short, not_begun, store_opened, run_opened, begun_in, begin_with, begin_on, begin, turned_away, bytes_all, threads_all, made, move_with, move_on}
 use Rattle.run_calls.specs.Watching.{Lent, lent_of, leaves, move_in, played, orders, RowsAre, AllRows, answer_in, WatchedRun}
 use Rattle.run_calls.proofs.Opened.{fixed_told, long_opened}
@@ -167,7 +168,7 @@ module _ (p : Program) (l : Lent) (os : List Order) (h : Watching p l os) (store
       made_over cs w = rw (w, made)
 
       made_fits : (cs : List (ℕ × Change)) → within (changed_all (machine_in run ts) cs) ≡ true
-          → made run ts (some cs) ≡ record { answer = RunAnswer.Threads (length (changed_all (machine_in run ts) cs).threads); run = bytes_all run cs; threads = threads_all run ts cs }
+          → made run ts (some cs) ≡ record { answer = Ok (length (changed_all (machine_in run ts) cs).threads); run = bytes_all run cs; threads = threads_all run ts cs }
       made_fits cs w = rw (w, made)
 
       fitting : (cs : List (ℕ × Change)) → changes p m o ≡ some cs → (b : Bool) → within (changed_all m cs) ≡ b → Moves o

@@ -4,7 +4,7 @@
 --   meet    the same for a sending and a receiving one
 -- The contract of each public function is equality with its definition here.
 use Rattle.std.specs.Prelude.{ℕ, ◌≤◌, Bool, not, ◌||◌, List, [], ◌∷◌, ◌≡◌, length, set, take, ltb, eqb}
-use Rattle.std.specs.Prelude.{Option, None as none, Some as some}
+use Rattle.std.specs.Prelude.{Option, None as none, Some as some, Result as Answered, Ok, Err}
 use Rattle.program.specs.Program.{Program}
 use Rattle.program.specs.Test.{pick}
 use Rattle.format.specs.declared.Reason.TheVariants.{StoreTooShort, StoreEmpty, StoreUnsound, MoveNotAllowed, LimitExceeded}
@@ -18,12 +18,15 @@ use Rattle.calls.specs.Layout.{store_size, decode}
 use Rattle.machine.specs.declared.ThreadRecord.{ThreadRecord}
 use Rattle.machine.specs.Machine.{Change, Order, alone, together, changes, changed_all, within, thread_limit}
 use Rattle.run_memory.specs.RunMemory.{run_size, in_use, counts, counted, machine_in, sound_run, bytes_after, threads_after}
-use Rattle.run_calls.specs.declared.RunAnswer.{RunAnswer}
+
+-- the number of threads then in use, or why the call is refused
+abbrev pub RunAnswer : Type 0
+RunAnswer = Answered ℕ Refusal
 
 -- "Accepted, beginning and a move answer the number of threads then in use"; "Numbers from 30 on carry line 0"
 unfoldable pub run_answer : RunAnswer → Answer
-run_answer (RunAnswer.Threads n) = answered (n ∷ [])
-run_answer (RunAnswer.Refused r) = refusal_answer r
+run_answer (Ok n) = answered (n ∷ [])
+run_answer (Err r) = refusal_answer r
 
 -- the answer, and the lent run memory and thread records afterwards
 pub record RunOutcome : Type 0 where
@@ -39,7 +42,7 @@ pub record LeavesRun (o : RunOutcome) (answer : RunAnswer) (run : Bytes) (thread
 
 -- a refused call "leaves the run as before"
 abbrev pub turned_away : Refusal → Bytes → List ThreadRecord → RunOutcome
-turned_away r run ts = record { answer = RunAnswer.Refused r; run = run; threads = ts }
+turned_away r run ts = record { answer = Err r; run = run; threads = ts }
 
 -- ---- 20 to 22, each asked of everything that is lent before the next
 
@@ -74,7 +77,7 @@ pub record Lends (run : Bytes) (ts : List ThreadRecord) : Type 0 where
 
 -- "it leaves thread 0 at row 0 and nothing else in use"
 unfoldable pub begun_in : Bytes → List ThreadRecord → RunOutcome
-begun_in run ts = record { answer = RunAnswer.Threads 1; run = counted run (counts 1 0 0); threads = set ts 0 (record { row = 0; cell = 0; frame = 0 }) }
+begun_in run ts = record { answer = Ok 1; run = counted run (counts 1 0 0); threads = set ts 0 (record { row = 0; cell = 0; frame = 0 }) }
 
 unfoldable pub begin_with : Bytes → List ThreadRecord → Result Document → RunOutcome
 begin_with run ts (refused r) = turned_away r run ts
@@ -97,7 +100,7 @@ unfoldable pub made : Bytes → List ThreadRecord → Option (List (ℕ × Chang
 made run ts none = turned_away (refusal MoveNotAllowed 0) run ts
 made run ts (some cs) =
     let after = changed_all (machine_in run ts) cs in
-    pick (within after) (record { answer = RunAnswer.Threads (length after.threads); run = bytes_all run cs; threads = threads_all run ts cs })
+    pick (within after) (record { answer = Ok (length after.threads); run = bytes_all run cs; threads = threads_all run ts cs })
     (turned_away (refusal LimitExceeded 0) run ts)
 
 unfoldable pub move_with : Bytes → List ThreadRecord → Order → Result Program → RunOutcome

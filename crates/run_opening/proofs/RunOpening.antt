@@ -1,4 +1,5 @@
 -- Opening a run: what its tests tell, one after the other.
+use Rattle.std.specs.Prelude.{Ok, Err}
 use Prim.Native.Nat.{ℕ, ◌≤◌}
 use native.Mathlib.Omega.{arith}
 use mathlib.Core.Bool.{Bool, true, false, or-true}
@@ -19,7 +20,7 @@ use Rattle.calls.specs.Calls.{is_empty, unsound, opened_fixed, opened}
 use Rattle.calls.specs.Canonical.{count_rows}
 use Rattle.calls.specs.Layout.{store_size, decode}
 use Rattle.store.specs.Rows.{store_program}
-use Rattle.opening.specs.declared.Opened.{Opened}
+use Rattle.opening.specs.Opening.{Opened}
 use Rattle.opening.specs.Opening.{OpenedIs}
 use Rattle.opening.proofs.Opening.{refused_is, opens_is}
 use Rattle.machine.specs.declared.ThreadRecord.{ThreadRecord}
@@ -38,7 +39,7 @@ module _ (store run : Bytes) (lent : ℕ) (ts : List ThreadRecord) where
   abbrev Answers : Opened → Type 0
   Answers o = RunOpenedIs (run_opened store run lent ts) fixed run ts o
 
-  pub short_refused : too_short store run lent ≡ true → Answers (Opened.Refused (refusal StoreTooShort 0))
+  pub short_refused : too_short store run lent ≡ true → Answers (Err (refusal StoreTooShort 0))
   unfolding run_opened
   short_refused e = rw e refl
 
@@ -47,7 +48,7 @@ module _ (store run : Bytes) (lent : ℕ) (ts : List ThreadRecord) where
     fixed-opened : opened store ≡ opened_fixed fixed
     fixed-opened = long_opened store (long_told store run lent long).store_long
 
-    pub not_begun_refused : (n : InUse) → n ≡ in_use run → n.threads ≡ 0 → Answers (Opened.Refused (refusal StoreEmpty 0))
+    pub not_begun_refused : (n : InUse) → n ≡ in_use run → n.threads ≡ 0 → Answers (Err (refusal StoreEmpty 0))
     unfolding run_opened not_begun
     not_begun_refused n e z =
         let q : eqb (in_use run).threads 0 ≡ true = eq-eqb (in_use run).threads 0 (sym (ap (λ (n : InUse). n.threads) e) ∙ z) in
@@ -58,7 +59,7 @@ module _ (store run : Bytes) (lent : ℕ) (ts : List ThreadRecord) where
       unfolding not_begun
       begun = ne_eqb (in_use run).threads 0 (λ q. z (ap (λ (n : InUse). n.threads) e ∙ q))
 
-      pub store_refused : (r : Refusal) → OpenedIs (opened store) fixed (Opened.Refused r) → Answers (Opened.Refused r)
+      pub store_refused : (r : Refusal) → OpenedIs (opened store) fixed (Err r) → Answers (Err r)
       unfolding run_opened opened_fixed
       store_refused r h = go (is_empty fixed) (unsound fixed) refl refl
         where
@@ -68,12 +69,12 @@ module _ (store run : Bytes) (lent : ℕ) (ts : List ThreadRecord) where
           same : {q : Refusal} → ◌≡◌ {A = Result Document} (refused q) (refused r) → r ≡ q
           same e = cc
 
-          go : (a b : Bool) → is_empty fixed ≡ a → unsound fixed ≡ b → Answers (Opened.Refused r)
-          go true b p q = let f : ◌≡◌ {A = Result Document} (refused (refusal StoreEmpty 0)) (refused r) = (rw (p, opened_fixed) at is) in rw (long, p, run_opened) (ap Opened.Refused (same f))
-          go false true p q = let f : ◌≡◌ {A = Result Document} (refused (refusal StoreUnsound 0)) (refused r) = (rw (p, q, opened_fixed) at is) in rw (long, p, begun, q, run_opened) (ap Opened.Refused (same f))
+          go : (a b : Bool) → is_empty fixed ≡ a → unsound fixed ≡ b → Answers (Err r)
+          go true b p q = let f : ◌≡◌ {A = Result Document} (refused (refusal StoreEmpty 0)) (refused r) = (rw (p, opened_fixed) at is) in rw (long, p, run_opened) (ap Err (same f))
+          go false true p q = let f : ◌≡◌ {A = Result Document} (refused (refusal StoreUnsound 0)) (refused r) = (rw (p, q, opened_fixed) at is) in rw (long, p, begun, q, run_opened) (ap Err (same f))
           go false false p q = let f = rw (p, q, opened_fixed) at is in let z : ◌≡◌ {A = ℕ} 0 1 = cc in absurd (omega arith)
 
-      module _ (rows : ℕ) (h : OpenedIs (opened store) fixed (Opened.Rows rows)) where
+      module _ (rows : ℕ) (h : OpenedIs (opened store) fixed (Ok rows)) where
         count : rows ≡ count_rows row_limit fixed
         count = (opens_is fixed (opened store) rows h).1
 
@@ -83,17 +84,17 @@ module _ (store run : Bytes) (lent : ℕ) (ts : List ThreadRecord) where
         passes : (is_empty fixed ≡ false) × (unsound fixed ≡ false) × (decode fixed ≡ decode fixed)
         passes = fixed_told fixed (decode fixed) (sym fixed-opened ∙ (opens_is fixed (opened store) rows h).0)
 
-        pub run_refused : sound_run (store_program rows fixed) run ts ≡ false → Answers (Opened.Refused (refusal StoreUnsound 0))
+        pub run_refused : sound_run (store_program rows fixed) run ts ≡ false → Answers (Err (refusal StoreUnsound 0))
         unfolding run_opened
         run_refused s = let t : sound_run (decode fixed).rows run ts ≡ false = ap (λ (p : Program). sound_run p run ts) program ∙ s in rw (long, passes.0, begun, passes.1, t) refl
 
-        pub run_opens : sound_run (store_program rows fixed) run ts ≡ true → thread_limit ≤ length ts → Answers (Opened.Rows rows)
+        pub run_opens : sound_run (store_program rows fixed) run ts ≡ true → thread_limit ≤ length ts → Answers (Ok rows)
         unfolding run_opened
         run_opens s l =
             let t : sound_run (decode fixed).rows run ts ≡ true = ap (λ (p : Program). sound_run p run ts) program ∙ s in
             let opened : run_opened store run lent ts ≡ accepted (decode fixed).rows = rw (long, passes.0, begun, passes.1, t) in
             let told = opened_told store run lent ts (decode fixed).rows opened in
-            subst (λ (x : Result Program). RunOpenedIs x fixed run ts (Opened.Rows rows)) (sym opened) (
+            subst (λ (x : Result Program). RunOpenedIs x fixed run ts (Ok rows)) (sym opened) (
               rows,
               refl,
               record {

@@ -1,15 +1,13 @@
 // 20, 21 and 22 of the run calls, each asked of everything that is lent before the next.
 #![tactic(auto)]
 
-ghost use Rattle.std.specs.Prelude.{◌≡◌, take};
+ghost use Rattle.std.specs.Prelude.{Err, ◌≡◌, take};
 ghost use Rattle.format.specs.Refusals.{refusal};
 ghost use Rattle.calls.specs.Layout.{store_size};
-ghost use Rattle.opening.specs.declared.Opened.{Opened};
 ghost use Rattle.run_calls.specs.RunCalls.{too_short, run_opened};
 ghost use Rattle.run_opening.specs.RunOpening.{RunOpenedIs};
 
 use format::{Reason, Refusal};
-use opening::Opened;
 use run_memory::{Run, in_use};
 use run_sound::sound_run;
 use store::Store;
@@ -30,17 +28,14 @@ pub fn too_short(store: &[u8], run: &[u8], lent: usize) -> bool
 }
 
 // A refusal of what is lent, at line 0.
-pub fn refuse_lent(reason: Reason) -> Opened
-    ensures { result ≡ Opened.Refused (refusal reason 0) }
+pub fn refuse_lent(reason: Reason) -> Result<u8, Refusal>
+    ensures { result ≡ Err (refusal reason 0) }
 {
-    Opened::Refused(Refusal {
-        reason: reason,
-        line: 0,
-    })
+    Err(reason.at(0))
 }
 
 // The rows that a move goes on.
-pub fn open_run(store: &[u8], run: &[u8], records: Records) -> Opened
+pub fn open_run(store: &[u8], run: &[u8], records: Records) -> Result<u8, Refusal>
     ensures { RunOpenedIs (run_opened store.now run.now records.lent records.list) (take store_size store.now) run.now records.list result }
 {
     let lent = records.lent;
@@ -52,10 +47,10 @@ pub fn open_run(store: &[u8], run: &[u8], records: Records) -> Opened
         return refuse_lent(Reason::StoreEmpty);
     }
     match opening::open(store) {
-        Opened::Refused(refusal) => Opened::Refused(refusal),
-        Opened::Rows(rows) => {
+        Err(refusal) => Err(refusal),
+        Ok(rows) => {
             if sound_run(&store[..Store::SIZE], rows, run, records) {
-                return Opened::Rows(rows);
+                return Ok(rows);
             }
             refuse_lent(Reason::StoreUnsound)
         }

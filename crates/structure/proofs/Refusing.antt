@@ -24,8 +24,6 @@ use Rattle.store.proofs.Laws.{program_length}
 use Rattle.store.specs.Document.{store_document}
 use Rattle.allowed.specs.Answer.{line_or}
 use Rattle.sound_lines.specs.Sound.{codes_sound, passes}
-use Rattle.structure.specs.declared.Structure.{Structure}
-use Rattle.structure.specs.declared.Structure.TheVariants.{Sound, Refused}
 use Rattle.structure.specs.Answer.{tree_fault}
 use Rattle.store.proofs.Document.{rows_are}
 
@@ -117,10 +115,6 @@ module _ (n : ℕ) (s : Bytes) (limit : n ≤ row_limit) where
         unfolding ◌>>=◌ ◌<|>◌ scope_line
         tree_sound l =
             rw (refusals, row_missing n _ m limit pointer no_pointer, row_missing n _ b limit binder no_binder, program_length n s, ← scope, le-ltb c n l)
-
--- an answer is a refusal or none
-pub refused_sound : {A : Type 0} {x : Structure} {f : Refusal} → x ≡ Refused f → x ≡ Sound → A
-refused_sound p q = let z : ◌≡◌ {A = ℕ} 0 1 = cc in absurd (omega arith)
 
 -- ---- the first refusal of all
 

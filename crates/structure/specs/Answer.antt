@@ -1,4 +1,4 @@
--- What the answer of this crate says, in the terms of the format's definitions.
+-- The first part of what this crate tests.
 use Rattle.std.specs.Prelude.{Option, None as none, Some as some}
 use Rattle.std.specs.Prelude.{length}
 use Rattle.program.specs.Test.{least}
@@ -8,13 +8,6 @@ use Rattle.format.specs.declared.Reason.TheVariants.{WrongPointer, BoundTwice, O
 use Rattle.format.specs.Refusals.{refusal}
 use Rattle.format.specs.Structure.{row_line, pointer_fault, binder_fault, scope_line}
 use Rattle.format.specs.declared.Refusal.{Refusal}
-use Rattle.structure.specs.declared.Structure.{Structure}
-use Rattle.structure.specs.declared.Structure.TheVariants.{Sound, Refused}
-
--- the refusal, if there is one
-abbrev pub structure_read : Structure → Option Refusal
-structure_read Sound = none
-structure_read (Refused f) = some f
 
 -- the first of 6, 7 and 8, which the rows alone decide
 unfoldable pub tree_fault : Program → Option Refusal

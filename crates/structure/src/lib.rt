@@ -1,83 +1,59 @@
 // The structure of a program in a store: the rows that its rows point at, the names that they bind, and what its sets and claims may name.
 #![tactic(auto)]
 
-ghost use Rattle.std.specs.Prelude.{◌≡◌, [], ◌≤◌, length};
+ghost use Rattle.std.specs.Prelude.{◌≡◌, [], ◌≤◌, length, Ok};
+ghost use Rattle.std.specs.Result.{result_err};
 ghost use Rattle.program.specs.Each.{collect};
 ghost use Rattle.program.specs.Program.{binders};
-ghost use Rattle.format.specs.Refusals.{refusal};
 ghost use Rattle.format.specs.Limits.{row_limit};
 ghost use Rattle.calls.specs.Layout.{store_size};
-ghost use Rattle.format.specs.Structure.{row_line, structure_fault};
+ghost use Rattle.format.specs.Structure.{structure_fault};
 ghost use Rattle.store.specs.Document.{store_document};
 ghost use Rattle.store.specs.Rows.{store_program};
 ghost use Rattle.seen.specs.Seen.{Marks};
-ghost use Rattle.structure.specs.declared.Structure.{Structure};
-ghost use Rattle.structure.specs.Answer.{structure_read, tree_fault};
+ghost use Rattle.structure.specs.Answer.{tree_fault};
 
 use format::{Reason, Refusal};
 use seen::NUMBERS;
 
-// Refusals 6 to 9: the first of them, or none.
-#[derive(Drop)]
-pub enum Structure {
-    Sound,
-    Refused(Refusal),
-}
-
-// The refusal at the line of a row: row 0 stands on line 2.
-fn at_row(reason: Reason, r: u8) -> Structure
-    ensures { result ≡ Structure.Refused (refusal reason (row_line r)) }
-{
-    Structure::Refused(Refusal {
-        reason: reason,
-        line: r as usize + 2,
-    })
-}
-
 // The first refusal of 6, 7 and 8 of a store with this many rows. Where there is none, the names that the rows bind are then marked.
-#[tactic(auto, using(crate::proofs::Refusing::pointer_refused, crate::proofs::Refusing::binder_refused, crate::proofs::Refusing::scope_refused, crate::proofs::Refusing::tree_sound, crate::proofs::Refusing::refused_sound))]
-pub fn tree_fault(store: &[u8], rows: u8, names: &mut [u8; NUMBERS]) -> Structure
+#[tactic(auto, using(crate::proofs::Refusing::pointer_refused, crate::proofs::Refusing::binder_refused, crate::proofs::Refusing::scope_refused, crate::proofs::Refusing::tree_sound))]
+pub fn tree_fault(store: &[u8], rows: u8, names: &mut [u8; NUMBERS]) -> Result<(), Refusal>
     requires rows_le_row_limit { rows ≤ row_limit }
     requires marks { Marks [] names.old }
-    ensures fault { structure_read result ≡ tree_fault (store_program rows store.now) }
-    ensures names { result ≡ Structure.Sound → Marks (collect binders (store_program rows store.now)) names.new }
+    ensures fault { result_err result ≡ tree_fault (store_program rows store.now) }
+    ensures names { result ≡ Ok tt → Marks (collect binders (store_program rows store.now)) names.new }
 {
     let pointer = pointers::pointer_fault(store, rows);
     if pointer < rows {
-        return at_row(Reason::WrongPointer, pointer);
+        return Err(Reason::WrongPointer.at_row(pointer));
     }
     let binder = binders::binder_fault(store, rows, names);
     if binder < rows {
-        return at_row(Reason::BoundTwice, binder);
+        return Err(Reason::BoundTwice.at_row(binder));
     }
     let unscoped = scope::scope_fault(store, rows);
     if unscoped < rows {
-        return at_row(Reason::OutOfScope, unscoped);
+        return Err(Reason::OutOfScope.at_row(unscoped));
     }
-    Structure::Sound
+    Ok(())
 }
 
 // The first refusal of 6, 7, 8 and 9 of a store with this many rows. The sets go line by line only where a line may be wrong.
 #[tactic(auto, using(crate::proofs::Refusing::tree_refused, crate::proofs::Refusing::lines_pass, crate::proofs::Refusing::line_refused, crate::proofs::Refusing::none_refused))]
-pub fn structure_fault(store: &[u8], rows: u8) -> Structure
+pub fn structure_fault(store: &[u8], rows: u8) -> Result<(), Refusal>
     requires rows_le_row_limit { rows ≤ row_limit }
     requires store_size_in_bounds { store_size ≤ length store.now }
-    ensures { structure_read result ≡ structure_fault (store_document rows store.now) }
+    ensures { result_err result ≡ structure_fault (store_document rows store.now) }
 {
     let mut names = [0; NUMBERS];
-    let tree = tree_fault(store, rows, &mut names);
-    let Structure::Sound = tree else {
-        return tree;
-    };
+    tree_fault(store, rows, &mut names)?;
     if sound_lines::lines_sound(store, rows, &names) {
-        return Structure::Sound;
+        return Ok(());
     }
     let line = allowed::not_allowed(store, rows, &names);
     if line != 0 {
-        return Structure::Refused(Refusal {
-            reason: Reason::NotAllowed,
-            line: line,
-        });
+        return Err(Reason::NotAllowed.at(line));
     }
-    Structure::Sound
+    Ok(())
 }

@@ -2,8 +2,8 @@
 use Rattle.accepting.proofs.Accepting.{file_refused, file_judged}
 use Rattle.acceptance.proofs.accept.Goals as goal
 
-pub returns-in-Refused : goal.returns-in-Refused
-returns-in-Refused c = file_refused _ _ c.in-Refused.ensures
+pub returns-in-Err : goal.returns-in-Err
+returns-in-Err c = file_refused _ _ c.in-Err.ensures
 
-pub returns-in-Loaded : goal.returns-in-Loaded
-returns-in-Loaded c = file_judged _ _ c.in-Loaded.ensures c.judge.ensures
+pub returns-in-Ok : goal.returns-in-Ok
+returns-in-Ok c = file_judged _ _ c.in-Ok.ensures c.judge.ensures

@@ -5,26 +5,26 @@ use Rattle.call_preview.proofs.Outcomes.{refused_left, judged_left}
 use Rattle.call_preview.proofs.preview.Goals as goal
 
 pub swap_flow-requires : goal.swap_flow-requires
-swap_flow-requires c = swap_ready c.in-Rows.ensures
+swap_flow-requires c = swap_ready c.in-Ok.ensures
 
 pub slice_bounds-judge_rows-end : goal.slice_bounds-judge_rows-end
-slice_bounds-judge_rows-end c = left_long c.in-Rows.ensures c.swap_flow.ensures.store_after
+slice_bounds-judge_rows-end c = left_long c.in-Ok.ensures c.swap_flow.ensures.store_after
 
-pub slice_bounds-judge_rows-end-in-Rows : goal.slice_bounds-judge_rows-end-in-Rows
-slice_bounds-judge_rows-end-in-Rows c = sym (left_size c.in-Rows.ensures c.swap_flow.ensures.store_after)
+pub slice_bounds-judge_rows-end-in-Ok : goal.slice_bounds-judge_rows-end-in-Ok
+slice_bounds-judge_rows-end-in-Ok c = sym (left_size c.in-Ok.ensures c.swap_flow.ensures.store_after)
 
 pub judge_rows-answer-requires : goal.judge_rows-answer-requires
 judge_rows-answer-requires c = record {
-  store_len = left_size c.in-Rows.ensures c.swap_flow.ensures.store_after;
-  rows_value = left_counted c.in-Rows.ensures c.swap_flow.ensures.store_after;
+  store_len = left_size c.in-Ok.ensures c.swap_flow.ensures.store_after;
+  rows_value = left_counted c.in-Ok.ensures c.swap_flow.ensures.store_after;
 }
 
-pub swap_flow-requires-in-Rows : goal.swap_flow-requires-in-Rows
-swap_flow-requires-in-Rows c = back_ready c.in-Rows.ensures c.swap_flow.ensures.store_after c.swap_flow.ensures.set_after
+pub swap_flow-requires-in-Ok : goal.swap_flow-requires-in-Ok
+swap_flow-requires-in-Ok c = back_ready c.in-Ok.ensures c.swap_flow.ensures.store_after c.swap_flow.ensures.set_after
 
-pub returns-in-Refused : goal.returns-in-Refused
-returns-in-Refused c = refused_left _ _ _ _ c.in-Refused.ensures
+pub returns-in-Err : goal.returns-in-Err
+returns-in-Err c = refused_left _ _ _ _ c.in-Err.ensures
 
-pub returns-in-Rows : goal.returns-in-Rows
-returns-in-Rows c =
-    judged_left _ _ _ _ c.in-Rows.ensures c.swap_flow.ensures.store_after c.swap_flow.ensures.set_after c.judge_rows-answer.ensures c.swap_flow-in-Rows.ensures.store_after
+pub returns-in-Ok : goal.returns-in-Ok
+returns-in-Ok c =
+    judged_left _ _ _ _ c.in-Ok.ensures c.swap_flow.ensures.store_after c.swap_flow.ensures.set_after c.judge_rows-answer.ensures c.swap_flow-in-Ok.ensures.store_after

@@ -11,8 +11,8 @@ returns-then-too_short c = refused_leaves c.refuse.ensures (begin_short _ _ _ _ 
 pub begin_rows-requires : goal.begin_rows-requires
 begin_rows-requires c = (long_told _ _ _ (sym c.too_short.ensures ∙ c.if-too_short.false)).run_long
 
-pub returns-in-Refused : goal.returns-in-Refused
-returns-in-Refused c = begin_refused _ _ _ _ (sym c.too_short.ensures ∙ c.if-too_short.false) _ (rw c.in-Refused.is at c.«open».ensures)
+pub returns-in-Err : goal.returns-in-Err
+returns-in-Err c = begin_refused _ _ _ _ (sym c.too_short.ensures ∙ c.if-too_short.false) _ (rw c.in-Err.is at c.«open».ensures)
 
-pub returns-in-Rows : goal.returns-in-Rows
-returns-in-Rows c = begin_opened _ _ _ _ (sym c.too_short.ensures ∙ c.if-too_short.false) _ (rw c.in-Rows.is at c.«open».ensures) c.begin_rows.ensures
+pub returns-in-Ok : goal.returns-in-Ok
+returns-in-Ok c = begin_opened _ _ _ _ (sym c.too_short.ensures ∙ c.if-too_short.false) _ (rw c.in-Ok.is at c.«open».ensures) c.begin_rows.ensures

@@ -7,22 +7,22 @@ use Rattle.call_write.proofs.Texts.{text_room, refused_store, no_room, whole_tex
 use Rattle.call_write.proofs.write.Goals as goal
 
 pub slice_bounds-fixed-end : goal.slice_bounds-fixed-end
-slice_bounds-fixed-end c = sym (fixed_size _ _ (rw c.in-Rows.is at c.«open».ensures))
+slice_bounds-fixed-end c = sym (fixed_size _ _ (rw c.in-Ok.is at c.«open».ensures))
 
 pub chan_rows-chans-requires : goal.chan_rows-chans-requires
-chan_rows-chans-requires c = few_rows _ _ (rw c.in-Rows.is at c.«open».ensures)
+chan_rows-chans-requires c = few_rows _ _ (rw c.in-Ok.is at c.«open».ensures)
 
 pub document_length-length-requires : goal.document_length-length-requires
-document_length-length-requires c = record { store_size_in_bounds = opens_long _ _ (rw c.in-Rows.is at c.«open».ensures); store_keys = store_keys _ _ (rw c.in-Rows.is at c.«open».ensures) _ _ c.bound-names.ensures c.chan_rows-chans.ensures (omega arith) }
+document_length-length-requires c = record { store_size_in_bounds = opens_long _ _ (rw c.in-Ok.is at c.«open».ensures); store_keys = store_keys _ _ (rw c.in-Ok.is at c.«open».ensures) _ _ c.bound-names.ensures c.chan_rows-chans.ensures (omega arith) }
 
 pub returns-then-out-length : goal.returns-then-out-length
-returns-then-out-length c = no_room _ _ _ _ (rw c.in-Rows.is at c.«open».ensures) c.document_length-length.ensures c.if-out-length.true
+returns-then-out-length c = no_room _ _ _ _ (rw c.in-Ok.is at c.«open».ensures) c.document_length-length.ensures c.if-out-length.true
 
 pub put_document-requires : goal.put_document-requires
-put_document-requires c = record { store_size_in_bounds = opens_long _ _ (rw c.in-Rows.is at c.«open».ensures); store_keys = store_keys _ _ (rw c.in-Rows.is at c.«open».ensures) _ _ c.bound-names.ensures c.chan_rows-chans.ensures (omega arith); room = text_room c.document_length-length.ensures c.if-out-length.false }
+put_document-requires c = record { store_size_in_bounds = opens_long _ _ (rw c.in-Ok.is at c.«open».ensures); store_keys = store_keys _ _ (rw c.in-Ok.is at c.«open».ensures) _ _ c.bound-names.ensures c.chan_rows-chans.ensures (omega arith); room = text_room c.document_length-length.ensures c.if-out-length.false }
 
-pub returns-in-Refused : goal.returns-in-Refused
-returns-in-Refused c = refused_store _ _ _ (rw c.in-Refused.is at c.«open».ensures)
+pub returns-in-Err : goal.returns-in-Err
+returns-in-Err c = refused_store _ _ _ (rw c.in-Err.is at c.«open».ensures)
 
 pub returns-else-out-length : goal.returns-else-out-length
-returns-else-out-length c = whole_text _ _ _ _ _ _ (rw c.in-Rows.is at c.«open».ensures) c.document_length-length.ensures c.if-out-length.false c.put_document.ensures
+returns-else-out-length c = whole_text _ _ _ _ _ _ (rw c.in-Ok.is at c.«open».ensures) c.document_length-length.ensures c.if-out-length.false c.put_document.ensures

@@ -3,18 +3,18 @@ use Rattle.reporting.proofs.Reports.{refused_room, load_line, refused_report, lo
 use Rattle.reporting.proofs.put_file.Goals as goal
 
 pub put_refused-requires : goal.put_refused-requires
-put_refused-requires c = record { line_bound = load_line _ _ _ c.in-Refused.ensures.answer_is; room = refused_room c.requires.report_limit_in_bounds _ }
+put_refused-requires c = record { line_bound = load_line _ _ _ c.in-Err.ensures.answer_is; room = refused_room c.requires.report_limit_in_bounds _ }
 
-pub returns-in-Refused : goal.returns-in-Refused
-returns-in-Refused c =
+pub returns-in-Err : goal.returns-in-Err
+returns-in-Err c =
     record {
       loaded = c.load.ensures.bytes_are;
-      wrote = rw (refused_report _ _ _ c.requires.store_size_in_bounds c.in-Refused.ensures.answer_is) c.put_refused.ensures;
+      wrote = rw (refused_report _ _ _ c.requires.store_size_in_bounds c.in-Err.ensures.answer_is) c.put_refused.ensures;
     }
 
-pub returns-in-Loaded : goal.returns-in-Loaded
-returns-in-Loaded c =
+pub returns-in-Ok : goal.returns-in-Ok
+returns-in-Ok c =
     record {
       loaded = c.load.ensures.bytes_are;
-      wrote = rw (loaded_report _ _ _ c.in-Loaded.ensures.answer_is c.load.ensures.bytes_are) c.put_store.ensures;
+      wrote = rw (loaded_report _ _ _ c.in-Ok.ensures.answer_is c.load.ensures.bytes_are) c.put_store.ensures;
     }

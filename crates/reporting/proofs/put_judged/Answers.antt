@@ -17,11 +17,11 @@ judge_store-requires c =
 
 pub put_refused-requires : goal.put_refused-requires
 put_refused-requires c =
-    record { line_bound = judged_line _ _ c.requires.opened_is c.judge_store.ensures.answer_is _ c.in-Refused.is; room = refused_room c.requires.report_limit_in_bounds _ }
+    record { line_bound = judged_line _ _ c.requires.opened_is c.judge_store.ensures.answer_is _ c.in-Err.is; room = refused_room c.requires.report_limit_in_bounds _ }
 
 pub overflow_cast-count : goal.overflow_cast-count
 overflow_cast-count c =
-    omega (arith, judged_count _ _ c.requires.opened_is c.judge_store.ensures.answer_is _ c.in-Accepted.is)
+    omega (arith, judged_count _ _ c.requires.opened_is c.judge_store.ensures.answer_is _ c.in-Ok.is)
 
 pub put_accepted-next-requires : goal.put_accepted-next-requires
 put_accepted-next-requires c =
@@ -29,13 +29,13 @@ put_accepted-next-requires c =
 
 pub put_channels-requires : goal.put_channels-requires
 put_channels-requires c =
-    record { store_size_in_bounds = (omega (arith, fixed_size _ _ c.requires.opened_is), counted _ _ c.requires.opened_is, search rules); shows = c.judge_store.ensures.grid_shows _ c.in-Accepted.is; room = room_then _ c.put_accepted-next.ensures (opened_room _ _ c.requires.opened_is c.requires.report_limit_in_bounds _) }
+    record { store_size_in_bounds = (omega (arith, fixed_size _ _ c.requires.opened_is), counted _ _ c.requires.opened_is, search rules); shows = c.judge_store.ensures.grid_shows _ c.in-Ok.is; room = room_then _ c.put_accepted-next.ensures (opened_room _ _ c.requires.opened_is c.requires.report_limit_in_bounds _) }
 
-pub returns-in-Refused : goal.returns-in-Refused
-returns-in-Refused c =
-    rw (judged_refused _ _ c.requires.opened_is c.judge_store.ensures.answer_is _ c.in-Refused.is) c.put_refused.ensures
+pub returns-in-Err : goal.returns-in-Err
+returns-in-Err c =
+    rw (judged_refused _ _ c.requires.opened_is c.judge_store.ensures.answer_is _ c.in-Err.is) c.put_refused.ensures
 
-pub returns-in-Accepted : goal.returns-in-Accepted
-returns-in-Accepted c =
-    rw (judged_accepted _ _ c.requires.opened_is c.judge_store.ensures.answer_is _ c.in-Accepted.is)
+pub returns-in-Ok : goal.returns-in-Ok
+returns-in-Ok c =
+    rw (judged_accepted _ _ c.requires.opened_is c.judge_store.ensures.answer_is _ c.in-Ok.is)
     (then c.put_accepted-next.ensures c.put_channels.ensures)
