@@ -51,6 +51,18 @@ impl Reason {
     }
 }
 
+impl From<Reason> for u8 {
+    ghost use Rattle.std.specs.Prelude.{◌≡◌};
+    ghost use Rattle.format.specs.Refusals.{number};
+
+    ghost from_gives = { λ r n. n ≡ number r };
+
+    #[tactic(auto, unfolding(crate::specs::Refusals::number))]
+    fn from(reason: Reason) -> u8 {
+        reason as u8
+    }
+}
+
 // The lines after the first stand in sections, in this order.
 #[derive(Clone, Copy, PartialEq, Eq)]
 pub enum Section {
