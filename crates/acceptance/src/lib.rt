@@ -9,8 +9,6 @@ use calls::JudgeAnswer;
 pub fn accept(file: &[u8], store: &mut [u8]) -> JudgeAnswer
     ensures { Accepts file.now store.old result store.new }
 {
-    match call_load::load(file, store) {
-        Err(refusal) => Err(refusal),
-        Ok(_) => call_judge::judge(store),
-    }
+    call_load::load(file, store)?;
+    call_judge::judge(store)
 }

@@ -13,11 +13,7 @@ use store::Store;
 pub fn infer(store: &mut [u8]) -> LoadAnswer
     ensures { Leaves (infer store.old) result store.new }
 {
-    match opening::open(store) {
-        Err(refusal) => Err(refusal),
-        Ok(rows) => {
-            smallest::smallest_sets(store, rows);
-            Ok(store_counts(&store[..Store::SIZE], rows))
-        }
-    }
+    let rows = opening::open(store)?;
+    smallest::smallest_sets(store, rows);
+    Ok(store_counts(&store[..Store::SIZE], rows))
 }

@@ -10,8 +10,6 @@ use store::Store;
 pub fn judge(store: &[u8]) -> JudgeAnswer
     ensures { Leaves (unaltered (judge store.entry.now) store.entry.now) result store.exit.now }
 {
-    match opening::open(store) {
-        Err(refusal) => Err(refusal),
-        Ok(rows) => judging::judge_rows(&store[..Store::SIZE], rows),
-    }
+    let rows = opening::open(store)?;
+    judging::judge_rows(&store[..Store::SIZE], rows)
 }

@@ -14,13 +14,9 @@ pub fn preview(store: &mut [u8], name: usize, unit: bool, rows: &[u8]) -> JudgeA
     ensures { Leaves (unaltered (preview store.old name unit rows.now) store.old) result store.new }
 {
     let mut set = [0u8; Store::MEMBERS];
-    match replaceable(store, name, unit, rows, &mut set) {
-        Err(refusal) => Err(refusal),
-        Ok(count) => {
-            swap_flow(store, name, &mut set);
-            let answer = judging::judge_rows(&store[..Store::SIZE], count);
-            swap_flow(store, name, &mut set);
-            answer
-        }
-    }
+    let count = replaceable(store, name, unit, rows, &mut set)?;
+    swap_flow(store, name, &mut set);
+    let answer = judging::judge_rows(&store[..Store::SIZE], count);
+    swap_flow(store, name, &mut set);
+    answer
 }

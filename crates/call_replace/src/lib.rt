@@ -14,11 +14,7 @@ pub fn replace(store: &mut [u8], name: usize, unit: bool, rows: &[u8]) -> LoadAn
     ensures { Leaves (replace store.old name unit rows.now) result store.new }
 {
     let mut set = [0u8; Store::MEMBERS];
-    match replaceable(store, name, unit, rows, &mut set) {
-        Err(refusal) => Err(refusal),
-        Ok(count) => {
-            swap_flow(store, name, &mut set);
-            Ok(store_counts(&store[..Store::SIZE], count))
-        }
-    }
+    let count = replaceable(store, name, unit, rows, &mut set)?;
+    swap_flow(store, name, &mut set);
+    Ok(store_counts(&store[..Store::SIZE], count))
 }

@@ -11,18 +11,14 @@ use store::Store;
 pub fn write(store: &[u8], out: &mut [u8]) -> WriteAnswer
     ensures { Leaves (write store.now out.old) result out.new }
 {
-    match opening::open(store) {
-        Err(refusal) => Err(refusal),
-        Ok(rows) => {
-            let fixed = &store[..Store::SIZE];
-            let names = binders::bound(fixed, rows);
-            let chans = allowed_lines::chan_rows(fixed, rows);
-            let length = writing::document_length(store, rows, &names, &chans);
-            if out.len() < length {
-                return Err(Reason::OutputTooShort.at(0));
-            }
-            writing::put_document(out, store, rows, &names, &chans);
-            Ok(length)
-        }
+    let rows = opening::open(store)?;
+    let fixed = &store[..Store::SIZE];
+    let names = binders::bound(fixed, rows);
+    let chans = allowed_lines::chan_rows(fixed, rows);
+    let length = writing::document_length(store, rows, &names, &chans);
+    if out.len() < length {
+        return Err(Reason::OutputTooShort.at(0));
     }
+    writing::put_document(out, store, rows, &names, &chans);
+    Ok(length)
 }

@@ -18,10 +18,7 @@ fn main(rt: HostRuntime) {
 // Whether an argument comes behind the program's name: also an empty one, and one that is longer than the byte lent.
 fn has_argument(rt: &impl Env) -> bool {
     let mut start = [0u8; 1];
-    match rt.arg(1, &mut start) {
-        Err(FillError::NotPresent) => false,
-        _ => true,
-    }
+    !matches!(rt.arg(1, &mut start), Err(FillError::NotPresent))
 }
 
 // Here and where the report is printed, the exit status stays 0 if a write fails.
@@ -43,12 +40,9 @@ fn report_input(rt: &(impl Input + Print)) {
 
 // The bytes written. Store and output are long enough, so that there is always a report.
 fn print_written(rt: &impl Print, answer: WriteAnswer, out: &[u8]) {
-    match answer {
-        Ok(length) => {
-            if length <= out.len() {
-                let _ = rt.write_all(&out[..length]);
-            }
+    if let Ok(length) = answer {
+        if let Some(report) = out.get(..length) {
+            let _ = rt.write_all(report);
         }
-        Err(_) => {}
     }
 }

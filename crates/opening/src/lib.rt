@@ -1,9 +1,8 @@
 // 20, 21 and 22: what a store must be for judge, verdict and write.
 #![tactic(auto)]
 
-ghost use Rattle.std.specs.Prelude.{Err, ◌≡◌, not, ◌≤◌, length, take};
+ghost use Rattle.std.specs.Prelude.{◌≡◌, not, ◌≤◌, length, take};
 ghost use Rattle.format.specs.Limits.{row_limit};
-ghost use Rattle.format.specs.Refusals.{refusal};
 ghost use Rattle.calls.specs.Layout.{store_size};
 ghost use Rattle.calls.specs.Canonical.{count_rows};
 ghost use Rattle.calls.specs.Calls.{is_empty, unsound, opened_fixed, opened};
@@ -12,13 +11,6 @@ ghost use Rattle.opening.specs.Opening.{OpenedIs};
 use format::{Reason, Refusal};
 use seen::NUMBERS;
 use store::Store;
-
-// A refusal of the store, at line 0.
-pub fn refuse_store(reason: Reason) -> Result<u8, Refusal>
-    ensures { result ≡ Err (refusal reason 0) }
-{
-    Err(reason.at(0))
-}
 
 // 21: whether every byte is 0. Where the first is not, no other is looked at.
 #[tactic(auto, using(crate::proofs::Opening::first_byte, crate::proofs::Opening::all_zeros))]
@@ -56,13 +48,13 @@ fn open_fixed(fixed: &[u8]) -> Result<u8, Refusal>
     ensures { OpenedIs (opened_fixed fixed.now) fixed.now result }
 {
     if is_empty(fixed) {
-        return refuse_store(Reason::StoreEmpty);
+        return Err(Reason::StoreEmpty.at(0));
     }
     let rows = row_bytes::count_rows(fixed);
     if is_sound(fixed, rows) {
         return Ok(rows);
     }
-    refuse_store(Reason::StoreUnsound)
+    Err(Reason::StoreUnsound.at(0))
 }
 
 // 20, 21 and 22 of a store, at the head of a slice.
@@ -71,7 +63,7 @@ pub fn open(store: &[u8]) -> Result<u8, Refusal>
     ensures { OpenedIs (opened store.now) (take store_size store.now) result }
 {
     if store.len() < Store::SIZE {
-        return refuse_store(Reason::StoreTooShort);
+        return Err(Reason::StoreTooShort.at(0));
     }
     open_fixed(&store[..Store::SIZE])
 }

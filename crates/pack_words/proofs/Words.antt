@@ -6,7 +6,13 @@ use mathlib.Core.List.{List, [], ◌∷◌, map}
 use mathlib.Core.Path.{◌≡◌, refl}
 use lib.ListN.{length, get_or}
 use mir.Val.{bool_byte}
-use Rattle.calls.specs.Answers.{yes_or_no}
+use Rattle.std.specs.Prelude.{Ok, Err}
+use Rattle.std.specs.Result.{result_and}
+use Rattle.calls.specs.Answers.{VerdictStatus, yes_or_no, status_answer, verdict_answer}
+use Rattle.calls.specs.declared.VerdictAnswer.{VerdictAnswer}
+use Rattle.packing.specs.Packing.{answer_of}
+use Rattle.pack_words.specs.declared.Words.{Words}
+use Rattle.pack_words.specs.Words.{word_values}
 use Rattle.packing.specs.Packing.{in_bits, word_bits}
 
 bit_low : (b : Bool) → bool_byte b ≤ 1
@@ -34,3 +40,12 @@ five_bits (a ∷ b ∷ c ∷ []) e = absurd (omega arith)
 five_bits (a ∷ b ∷ c ∷ d ∷ []) e = absurd (omega arith)
 five_bits (a ∷ b ∷ c ∷ d ∷ f ∷ []) e = omega (arith, bit_is a, bit_is b, bit_is c, bit_is d, bit_is f)
 five_bits (a ∷ b ∷ c ∷ d ∷ f ∷ x ∷ ws) e = absurd (omega arith)
+
+-- the words of a verdict that is given, or why it is not
+pub verdict_is : (a : VerdictAnswer) → answer_of word_values (result_and a.status (Ok (record { words = a.words }))) ≡ verdict_answer a
+unfolding verdict_answer status_answer
+verdict_is a = go a.status
+  where
+    go : (s : VerdictStatus) → answer_of word_values (result_and s (Ok (record { words = a.words }))) ≡ status_answer s (map yes_or_no a.words)
+    go (Ok tt) = refl
+    go (Err r) = refl

@@ -7,26 +7,40 @@ ghost use Rattle.calls.specs.Judging.{verdict_words};
 ghost use Rattle.packing.specs.Packing.{packed, word_bits, Lossless};
 
 use calls::VerdictAnswer;
-use packing::pack_refusal;
+use packing::{Packs, pack};
 
-// The five words, a bit each, above a byte of 0.
-#[tactic(auto, using(crate::proofs::Words::bits_low, crate::proofs::Words::five_bits), unfolding(calls::specs::Answers::verdict_answer, calls::specs::Answers::status_answer, calls::specs::Answers::refusal_answer, packing::specs::Packing::packed))]
+// The five words of a verdict.
+struct Words {
+    words: [bool; 5],
+}
+
+impl Packs for Words {
+    ghost use Rattle.packing.specs.Packing.{word_bits};
+    ghost use Rattle.pack_words.specs.Words.{word_values};
+
+    ghost bits = { word_bits };
+
+    ghost values = { word_values };
+
+    // A bit each.
+    #[tactic(auto, using(crate::proofs::Words::bits_low, crate::proofs::Words::five_bits))]
+    fn pack(self) -> u64 {
+        let one_shot = self.words[0] as u64;
+        let one_to_one = self.words[1] as u64;
+        let fan_out = self.words[2] as u64;
+        let fan_in = self.words[3] as u64;
+        let one_sync = self.words[4] as u64;
+        one_shot + 2 * (one_to_one + 2 * (fan_out + 2 * (fan_in + 2 * one_sync)))
+    }
+}
+
+// The five words above a byte of 0.
+#[tactic(auto, using(crate::proofs::Words::verdict_is))]
 pub fn pack_verdict(answer: VerdictAnswer) -> u64
     requires lossless { Lossless word_bits (verdict_answer answer) }
     requires words_len { length answer.words ≡ length verdict_words }
     ensures { result ≡ packed word_bits (verdict_answer answer) }
 {
-    let words = answer.words;
-    let one_shot = words[0] as u64;
-    let one_to_one = words[1] as u64;
-    let fan_out = words[2] as u64;
-    let fan_in = words[3] as u64;
-    let one_sync = words[4] as u64;
-    let status = answer.status;
-    match status {
-        Err(refusal) => pack_refusal(refusal),
-        Ok(()) => {
-            256 * (one_shot + 2 * (one_to_one + 2 * (fan_out + 2 * (fan_in + 2 * one_sync))))
-        }
-    }
+    let words = Words { words: answer.words };
+    pack(answer.status.and(Ok(words)))
 }

@@ -12,6 +12,5 @@ pub fn infer(store: &mut [u8]) -> u64
     ensures value { result ≡ packed count_bits (load_answer (infer store.old).answer) }
     ensures store_after { store.new ≡ (infer store.old).bytes }
 {
-    let answer = call_infer::infer(store);
-    packing::pack_load(answer)
+    packing::pack_load(call_infer::infer(store))
 }

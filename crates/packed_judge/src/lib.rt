@@ -12,6 +12,5 @@ pub fn judge(store: &[u8]) -> u64
     ensures value { result ≡ packed number_bits (judge_answer (judge store.now)) }
     ensures store_after { store.exit.now ≡ store.entry.now }
 {
-    let answer = call_judge::judge(store);
-    packing::pack_judge(answer)
+    packing::pack_judge(call_judge::judge(store))
 }

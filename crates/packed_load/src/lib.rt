@@ -11,6 +11,5 @@ pub fn load(file: &[u8], store: &mut [u8]) -> u64
     ensures value { result ≡ packed count_bits (load_answer (load file.now store.old).answer) }
     ensures store_after { store.new ≡ (load file.now store.old).bytes }
 {
-    let answer = call_load::load(file, store);
-    packing::pack_load(answer)
+    packing::pack_load(call_load::load(file, store))
 }

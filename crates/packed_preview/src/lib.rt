@@ -12,6 +12,5 @@ pub fn preview(store: &mut [u8], name: usize, unit: u8, rows: &[u8]) -> u64
     ensures value { result ≡ packed number_bits (judge_answer (preview store.old name (ltb 0 unit) rows.now)) }
     ensures store_unchanged { store.new ≡ store.old }
 {
-    let answer = call_preview::preview(store, name, 0 < unit, rows);
-    packing::pack_judge(answer)
+    packing::pack_judge(call_preview::preview(store, name, 0 < unit, rows))
 }

@@ -11,6 +11,5 @@ pub fn replace(store: &mut [u8], name: usize, unit: u8, rows: &[u8]) -> u64
     ensures value { result ≡ packed count_bits (load_answer (replace store.old name (ltb 0 unit) rows.now).answer) }
     ensures store_after { store.new ≡ (replace store.old name (ltb 0 unit) rows.now).bytes }
 {
-    let answer = call_replace::replace(store, name, 0 < unit, rows);
-    packing::pack_load(answer)
+    packing::pack_load(call_replace::replace(store, name, 0 < unit, rows))
 }

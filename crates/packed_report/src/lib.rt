@@ -13,6 +13,5 @@ pub fn report(file: &[u8], store: &mut [u8], out: &mut [u8]) -> u64
     ensures store_after { store.new ≡ (reported file.now store.old out.old).store }
     ensures out_after { out.new ≡ (reported file.now store.old out.old).out }
 {
-    let answer = reporting::report(file, store, out);
-    packing::pack_write(answer)
+    packing::pack_write(reporting::report(file, store, out))
 }

@@ -23,7 +23,8 @@ use Rattle.run_memory.specs.RunMemory.{machine_in, sound_run}
 use Rattle.run_calls.specs.RunCalls.{RunAnswer}
 use Rattle.run_calls.specs.RunCalls.{run_answer, RunOutcome, LeavesRun, too_short, not_begun, store_opened, run_opened, begun_in, begin_with, begin_on, begin, made, move_with, move_on}
 use Rattle.run_calls.proofs.Left.{within_told}
-use Rattle.packing.specs.Packing.{packed, number_bits, Lossless}
+use Rattle.packing.specs.Packing.{packed, number_bits, Lossless, answer_of}
+use Rattle.packing.specs.Values.{one_value}
 use Rattle.packing.proofs.Unpacking.{unpacked, values_back, refusal_back}
 use Rattle.packed_run.specs.declared.RunLeft.{RunLeft}
 use Rattle.packed_run.specs.PackedRun.{PackedLeaves}
@@ -84,6 +85,11 @@ module _ (store run : Bytes) (lent : ℕ) (ts : List ThreadRecord) where
       go : (x : Result Program) → Zero x → Packs (move_with run ts o x).answer
       go x (none_else r) = omega arith
       go x (fine {a = p}) = making (changes p (machine_in run ts) o)
+
+pub run_is : (a : RunAnswer) → answer_of one_value a ≡ run_answer a
+unfolding run_answer
+run_is (Ok n) = refl
+run_is (Err r) = refl
 
 -- so that what a caller reads in the number is the answer
 run_back : (a : RunAnswer) → Packs a → unpacked number_bits 1 (packed number_bits (run_answer a)) ≡ run_answer a

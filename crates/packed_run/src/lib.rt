@@ -8,7 +8,6 @@ ghost use Rattle.packing.specs.Packing.{packed, number_bits, Lossless};
 ghost use Rattle.packed_run.specs.PackedRun.{BegunIs, MovedIs, MetIs};
 
 use call_run::{begin_run, meet_threads, move_thread};
-use packing::pack_refusal;
 use run_calls::RunAnswer;
 use run_memory::Run;
 use thread_records::Records;
@@ -28,15 +27,12 @@ pub fn run_size() -> u64
 }
 
 // The number of threads in use above a byte of 0.
-#[tactic(auto, unfolding(run_calls::specs::RunCalls::run_answer, calls::specs::Answers::refusal_answer, packing::specs::Packing::packed, packing::specs::Packing::in_bits))]
+#[tactic(auto, using(crate::proofs::RunLossless::run_is))]
 fn pack_run(answer: RunAnswer) -> u64
     requires { Lossless number_bits (run_answer answer) }
     ensures { result ≡ packed number_bits (run_answer answer) }
 {
-    match answer {
-        Err(refusal) => pack_refusal(refusal),
-        Ok(threads) => 256 * (threads as u64),
-    }
+    packing::pack(answer)
 }
 
 // Begins a run: the threads in use, which is 1.

@@ -12,6 +12,5 @@ pub fn verdict(store: &[u8], channel: usize) -> u64
     ensures value { result ≡ packed word_bits (verdict_answer (verdict store.now channel)) }
     ensures store_after { store.exit.now ≡ store.entry.now }
 {
-    let answer = call_verdict::verdict(store, channel);
-    pack_words::pack_verdict(answer)
+    pack_words::pack_verdict(call_verdict::verdict(store, channel))
 }

@@ -11,6 +11,5 @@ pub fn write(store: &[u8], out: &mut [u8]) -> u64
     ensures value { result ≡ packed number_bits (write_answer (write store.now out.old).answer) }
     ensures out_after { out.new ≡ (write store.now out.old).bytes }
 {
-    let answer = call_write::write(store, out);
-    packing::pack_write(answer)
+    packing::pack_write(call_write::write(store, out))
 }

@@ -125,5 +125,5 @@ verdict_back a k e = go a.status
   where
     go : (s : VerdictStatus) → Lossless word_bits (status_answer s (map yes_or_no a.words))
         → unpacked word_bits k (packed word_bits (status_answer s (map yes_or_no a.words))) ≡ status_answer s (map yes_or_no a.words)
-    go Ok tt h = rw (length-map a.words yes_or_no ∙ e) at (values_back word_bits (map yes_or_no a.words) h)
+    go (Ok tt) h = rw (length-map a.words yes_or_no ∙ e) at (values_back word_bits (map yes_or_no a.words) h)
     go (Err r) h = refusal_back word_bits k r

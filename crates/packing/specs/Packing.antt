@@ -1,7 +1,9 @@
 -- An answer as one 64-bit number, for the C functions. The low 8 bits are 0 where the call is accepted, else they have the refusal's number. Above them stands the line,
 -- or the values one after the other, the first lowest.
 use Rattle.std.specs.Prelude.{ℕ, ◌+◌, ◌*◌, ◌^◌, ◌<◌, List, [], ◌∷◌}
-use Rattle.calls.specs.Answers.{Answer, turned_back, answered}
+use Rattle.std.specs.Prelude.{Result, Ok, Err}
+use Rattle.format.specs.declared.Refusal.{Refusal}
+use Rattle.calls.specs.Answers.{Answer, turned_back, answered, refusal_answer}
 
 -- the values, each in so many bits, the first lowest
 unfoldable pub in_bits : ℕ → List ℕ → ℕ
@@ -34,3 +36,8 @@ Short bits (v ∷ vs) = (v < 2 ^ bits) × Short bits vs
 abbrev pub Lossless : ℕ → Answer → Type 0
 Lossless bits (turned_back number line) = line < 2 ^ number_bits
 Lossless bits (answered values) = Short bits values
+
+-- the answer of a call whose values are these
+abbrev pub answer_of : {T : Type 0} → (T → List ℕ) → Result T Refusal → Answer
+answer_of values (Ok x) = answered (values x)
+answer_of values (Err r) = refusal_answer r

@@ -3,6 +3,7 @@
 
 use calls::{JudgeAnswer, LoadAnswer, VerdictAnswer, WriteAnswer};
 use format::Refusal;
+use refusal_numbers::number;
 use std::io;
 use write_text::put_argument;
 
@@ -18,67 +19,61 @@ fn print_number(rt: &impl Print, n: usize) -> io::Result<()> {
 
 // A refusal, as a report has it.
 pub fn print_refusal(rt: &impl Print, refusal: Refusal) -> io::Result<()> {
-    let line = refusal.line;
-    let reason = refusal.reason;
-    let number = refusal_numbers::number(reason);
     rt.write_all(b"[refused")?;
-    print_number(rt, number as usize)?;
-    print_number(rt, line)?;
+    print_number(rt, number(refusal.reason) as usize)?;
+    print_number(rt, refusal.line)?;
     rt.write_all(b"]\n")
 }
 
-pub fn print_loaded(rt: &impl Print, answer: LoadAnswer) -> io::Result<()> {
+// A word and the numbers of an accepted call in a line, or its refusal.
+fn print_answer<const N: usize>(
+    rt: &impl Print,
+    word: &[u8],
+    answer: Result<[usize; N], Refusal>,
+) -> io::Result<()> {
     match answer {
-        Ok(counts) => {
-            rt.write_all(b"loaded")?;
-            print_number(rt, counts.rows)?;
-            print_number(rt, counts.flows)?;
-            print_number(rt, counts.comms)?;
-            print_number(rt, counts.claims)?;
+        Ok(numbers) => {
+            rt.write_all(word)?;
+            for n in numbers {
+                print_number(rt, n)?;
+            }
             rt.write_all(b"\n")
         }
         Err(refusal) => print_refusal(rt, refusal),
     }
 }
 
+pub fn print_loaded(rt: &impl Print, answer: LoadAnswer) -> io::Result<()> {
+    print_answer(
+        rt,
+        b"loaded",
+        answer.map(|n| [n.rows, n.flows, n.comms, n.claims]),
+    )
+}
+
+pub fn print_judged(rt: &impl Print, answer: JudgeAnswer) -> io::Result<()> {
+    print_answer(rt, b"accepted", answer.map(|n| [n]))
+}
+
+// Whether a verdict is given; its words are in the report.
+pub fn print_verdict(rt: &impl Print, answer: VerdictAnswer) -> io::Result<()> {
+    print_answer(rt, b"given", answer.status.map(|()| []))
+}
+
 // The text itself where it was written, in lines of its own.
 pub fn print_written(rt: &impl Print, answer: WriteAnswer, out: &[u8]) -> io::Result<()> {
+    print_answer(rt, b"written", answer.map(|n| [n]))?;
     match answer {
-        Ok(n) => {
-            rt.write_all(b"written")?;
-            print_number(rt, n)?;
-            rt.write_all(b"\n")?;
-            print_start(rt, n, out)
-        }
-        Err(refusal) => print_refusal(rt, refusal),
+        Ok(n) => print_start(rt, n, out),
+        Err(_) => Ok(()),
     }
 }
 
 // The first n bytes, where there are so many.
 fn print_start(rt: &impl Print, n: usize, out: &[u8]) -> io::Result<()> {
-    if n <= out.len() {
-        return rt.write_all(&out[..n]);
-    }
-    Ok(())
-}
-
-pub fn print_judged(rt: &impl Print, answer: JudgeAnswer) -> io::Result<()> {
-    match answer {
-        Ok(n) => {
-            rt.write_all(b"accepted")?;
-            print_number(rt, n)?;
-            rt.write_all(b"\n")
-        }
-        Err(refusal) => print_refusal(rt, refusal),
-    }
-}
-
-// Whether a verdict is given; its words are in the report.
-pub fn print_verdict(rt: &impl Print, answer: VerdictAnswer) -> io::Result<()> {
-    let status = answer.status;
-    match status {
-        Ok(()) => rt.write_all(b"given\n"),
-        Err(refusal) => print_refusal(rt, refusal),
+    match out.get(..n) {
+        Some(start) => rt.write_all(start),
+        None => Ok(()),
     }
 }
 

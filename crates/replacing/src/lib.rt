@@ -8,7 +8,6 @@ ghost use Rattle.calls.specs.Layout.{member_limit, store_size, flow_at};
 ghost use Rattle.replacing.specs.Replacing.{ReplaceableIs};
 
 use format::{Reason, Refusal};
-use opening::refuse_store;
 use store::Store;
 
 // 20 to 22 of a store, 32 of a name, 33 of a set that is handed over. Where there is none of them, marks the set and answers how many rows the store has.
@@ -16,21 +15,17 @@ pub fn replaceable(store: &[u8], name: usize, unit: bool, list: &[u8], set: &mut
     requires { set.old ≡ replicate member_limit 0 }
     ensures { ReplaceableIs store.now name unit list.now set.new result }
 {
-    match opening::open(store) {
-        Err(refusal) => Err(refusal),
-        Ok(rows) => {
-            let fixed = &store[..Store::SIZE];
-            let marks = binders::bound(fixed, rows);
-            if read_text::byte_at(&marks, name) == 0 {
-                return refuse_store(Reason::NotBound);
-            }
-            let members = allowed_lines::allowed_members(fixed, rows);
-            if handed_sets::mark_members(unit, list, &members, set) {
-                return Ok(rows);
-            }
-            refuse_store(Reason::SetNotAllowed)
-        }
+    let rows = opening::open(store)?;
+    let fixed = &store[..Store::SIZE];
+    let marks = binders::bound(fixed, rows);
+    if read_text::byte_at(&marks, name) == 0 {
+        return Err(Reason::NotBound.at(0));
     }
+    let members = allowed_lines::allowed_members(fixed, rows);
+    if handed_sets::mark_members(unit, list, &members, set) {
+        return Ok(rows);
+    }
+    Err(Reason::SetNotAllowed.at(0))
 }
 
 // Puts a set in the place of a name's, which is then in the set's place.

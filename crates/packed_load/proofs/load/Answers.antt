@@ -7,7 +7,7 @@ use Rattle.lossless.proofs.Lossless.{load_lossless}
 use Rattle.packed_load.proofs.load.Goals as goal
 
 pub pack_load-requires : goal.pack_load-requires
-pack_load-requires c = rw c.load-answer.ensures.answer_is (load_lossless _ _)
+pack_load-requires c = rw c.load.ensures.answer_is (load_lossless _ _)
 
 pub returns : goal.returns
-returns c = record { value = c.pack_load.ensures ∙ ap (λ (a : LoadAnswer). packed count_bits (load_answer a)) c.load-answer.ensures.answer_is; store_after = c.load-answer.ensures.bytes_are }
+returns c = record { value = c.pack_load.ensures ∙ ap (λ (a : LoadAnswer). packed count_bits (load_answer a)) c.load.ensures.answer_is; store_after = c.load.ensures.bytes_are }

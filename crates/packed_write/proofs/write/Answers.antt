@@ -3,4 +3,4 @@ use Rattle.lossless.proofs.Lossless.{write_lossless}
 use Rattle.packed_write.proofs.write.Goals as goal
 
 pub pack_write-requires : goal.pack_write-requires
-pack_write-requires c = rw c.write-answer.ensures.answer_is (write_lossless _ _)
+pack_write-requires c = rw c.write.ensures.answer_is (write_lossless _ _)

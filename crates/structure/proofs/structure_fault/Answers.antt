@@ -3,5 +3,5 @@ use mathlib.Core.Path.{refl}
 use Rattle.seen.proofs.Marking.{marks_none}
 use Rattle.structure.proofs.structure_fault.Goals as goal
 
-pub tree_fault-tree-requires : goal.tree_fault-tree-requires
-tree_fault-tree-requires c = record { rows_le_row_limit = c.requires.rows_le_row_limit; marks = marks_none _ refl }
+pub tree_fault-requires : goal.tree_fault-requires
+tree_fault-requires c = record { rows_le_row_limit = c.requires.rows_le_row_limit; marks = marks_none _ refl }
