@@ -9,7 +9,9 @@ use borrow.Author.Tests.{eq-eqb, ne_eqb}
 use Rattle.program.specs.Test.{pick}
 use Rattle.format.specs.Text.{Bytes}
 use Rattle.machine.specs.declared.Cell.{Cell}
-use Rattle.machine.specs.Machine.{held_by, numbered, find}
+use Rattle.machine.specs.declared.Held.{Held}
+use Rattle.machine.specs.declared.Held.TheVariants.{Channel, Closure}
+use Rattle.machine.specs.Machine.{held_by, numbered, find, channel_held_by, closure_held_by}
 use Rattle.run_memory.specs.RunMemory.{cell_at, frame_at, cells_in, frames_in}
 use Rattle.run_memory.proofs.Codec.{length_cells, length_frames}
 
@@ -86,3 +88,17 @@ module _ (b : Bytes) where
       go : Dec (k ≡ suc n) → (k ≤ n → numbered (frames_in b n) k ≡ some (frame_at b k)) → numbered (frames_in b (suc n)) k ≡ some (frame_at b k)
       go (yes e) h = rw (length_frames b n, eq-eqb k (suc n) e) (ap (λ (j : ℕ). some (frame_at b j)) (sym e))
       go (no d) h = rw (length_frames b n, ne_eqb k (suc n) d) (h (omega (arith, g, d)))
+
+-- ---- what is held and is no channel, or no closure
+
+pub no_channel : (h : Held) → ((k : ℕ) → h ≡ Channel k → ⊥) → channel_held_by h ≡ none
+unfolding channel_held_by
+no_channel Held.Unit n = refl
+no_channel (Channel k) n = absurd (n k refl)
+no_channel (Closure r k) n = refl
+
+pub no_closure : (h : Held) → ((r k : ℕ) → h ≡ Closure r k → ⊥) → closure_held_by h ≡ none
+unfolding closure_held_by
+no_closure Held.Unit n = refl
+no_closure (Channel k) n = refl
+no_closure (Closure r k) n = absurd (n r k refl)

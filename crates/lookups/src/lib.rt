@@ -4,38 +4,9 @@
 ghost use Rattle.std.specs.Prelude.{◌≡◌};
 ghost use Rattle.machine.specs.Machine.{held_by, numbered, find, find_closure, find_channel};
 ghost use Rattle.run_memory.specs.RunMemory.{InLimits, memory_in};
-ghost use Rattle.lookups.specs.Found.{held_in, closure_in, channel_in, frame_in};
 
 use machine::{Frame, Held, Kept};
 use run_memory::{cell_at, frame_at, in_use};
-
-// What a name has, if it is found.
-#[derive(Drop)]
-pub enum Found {
-    Nothing,
-    Value(Held),
-}
-
-// A value row, and the newest cell of its environment.
-#[derive(Drop)]
-pub enum ClosureFound {
-    Nothing,
-    Closure(u8, u16),
-}
-
-// A channel, by the cell that made it.
-#[derive(Drop)]
-pub enum ChannelFound {
-    Nothing,
-    Channel(u16),
-}
-
-// A waiting return.
-#[derive(Drop)]
-pub enum FrameFound {
-    Nothing,
-    Waits(Frame),
-}
 
 // The value that the cell of this number keeps.
 #[tactic(auto, unfolding(machine::specs::Machine::held_by))]
@@ -49,69 +20,58 @@ fn held_by(k: u16, kept: Kept) -> Held
 }
 
 // The value of a name.
-pub fn find(run: &[u8], from: u16, name: u8) -> Found
-    ensures { held_in result ≡ find (memory_in run.now).cells from name }
+pub fn find(run: &[u8], from: u16, name: u8) -> Option<Held>
+    ensures { result ≡ find (memory_in run.now).cells from name }
 {
-    let n = in_use(run);
-    if n.cells < from {
-        return Found::Nothing;
+    if in_use(run).cells < from {
+        return None;
     }
     let mut k = from;
+    // Not a count: each cell says which one comes next.
     while 0 < k {
         let cell = cell_at(run, k);
-        let bound = cell.name;
-        if bound == name {
-            let kept = cell.kept;
-            return Found::Value(held_by(k, kept));
+        if cell.name == name {
+            return Some(held_by(k, cell.kept));
         }
         let older = cell.older;
         if k <= older {
-            return Found::Nothing;
+            return None;
         }
         k = older;
     }
-    Found::Nothing
+    None
 }
 
-// The closure that a name has.
-pub fn find_closure(run: &[u8], from: u16, name: u8) -> ClosureFound
-    ensures { closure_in result ≡ find_closure (memory_in run.now).cells from name }
+// The closure that a name has: its value row, and the newest cell of its environment.
+pub fn find_closure(run: &[u8], from: u16, name: u8) -> Option<(u8, u16)>
+    ensures { result ≡ find_closure (memory_in run.now).cells from name }
 {
-    match find(run, from, name) {
-        Found::Nothing => ClosureFound::Nothing,
-        Found::Value(held) => match held {
-            Held::Unit => ClosureFound::Nothing,
-            Held::Channel(_) => ClosureFound::Nothing,
-            Held::Closure(row, cell) => ClosureFound::Closure(row, cell),
-        },
+    match find(run, from, name)? {
+        Held::Closure(row, cell) => Some((row, cell)),
+        _ => None,
     }
 }
 
-// The channel that a name has.
-pub fn find_channel(run: &[u8], from: u16, name: u8) -> ChannelFound
-    ensures { channel_in result ≡ find_channel (memory_in run.now).cells from name }
+// The channel that a name has, by the cell that made it.
+pub fn find_channel(run: &[u8], from: u16, name: u8) -> Option<u16>
+    ensures { result ≡ find_channel (memory_in run.now).cells from name }
 {
-    match find(run, from, name) {
-        Found::Nothing => ChannelFound::Nothing,
-        Found::Value(held) => match held {
-            Held::Unit => ChannelFound::Nothing,
-            Held::Channel(cell) => ChannelFound::Channel(cell),
-            Held::Closure(_, _) => ChannelFound::Nothing,
-        },
+    match find(run, from, name)? {
+        Held::Channel(cell) => Some(cell),
+        _ => None,
     }
 }
 
 // The frame of this number, if it is in use.
-pub fn find_frame(run: &[u8], k: u16) -> FrameFound
+pub fn find_frame(run: &[u8], k: u16) -> Option<Frame>
     requires { InLimits run.now }
-    ensures { frame_in result ≡ numbered (memory_in run.now).frames k }
+    ensures { result ≡ numbered (memory_in run.now).frames k }
 {
     if k == 0 {
-        return FrameFound::Nothing;
+        return None;
     }
-    let n = in_use(run);
-    if n.frames < k {
-        return FrameFound::Nothing;
+    if in_use(run).frames < k {
+        return None;
     }
-    FrameFound::Waits(frame_at(run, k))
+    Some(frame_at(run, k))
 }

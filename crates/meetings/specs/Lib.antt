@@ -1,2 +1,2 @@
--- What a meeting does, as the enum of the code has it.
+-- What a meeting does, as the struct of the code has it.
 pub mod Meetings

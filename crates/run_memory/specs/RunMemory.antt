@@ -1,4 +1,4 @@
--- The run memory: its fixed size and layout, which document 02 leaves open. Slots of eight bytes: slot 0 has the counts in use, so that a run not begun has none; then the cells by their numbers, then the frames. A slot has three numbers of one byte, two of two bytes, the low one first, and a 0. Thread records stand in a lent list of their own.
+-- The run memory: its fixed size and layout, which the calls leave open. Slots of eight bytes: slot 0 has the counts in use, so that a run not begun has none; then the cells by their numbers, then the frames. A slot has three numbers of one byte, two of two bytes, the low one first, and a 0. Thread records stand in a lent list of their own.
 --   slot 0          threads, 0, 0, cells, frames
 --   slot k          cell k: name, kind, row, older, cell. Kind 0 is unit, 1 a channel that this cell made, 2 a channel that another made, any other a closure
 --   slot 4096 + k   frame k: name, rest, 0, cell, older

@@ -4,7 +4,7 @@
 ghost use Rattle.std.specs.Prelude.{◌≡◌, ◌+◌, ◌*◌, ◌≤◌, ◌<◌, length};
 ghost use Rattle.machine.specs.declared.Kept.{Kept};
 ghost use Rattle.machine.specs.Machine.{cell_limit, frame_limit, thread_limit, next_frame};
-ghost use Rattle.run_memory.specs.RunMemory.{slot_size, run_size, word_at, slot_at, put_slot, kept_of, slot_of_cell, in_use, InLimits, memory_in, cell_at, frame_at, counted, push_cell, push_frame, push_thread};
+ghost use Rattle.run_memory.specs.RunMemory.{slot_size, run_size, word_at, slot_at, put_slot, kind_of, row_of, cell_of, kept_of, in_use, InLimits, memory_in, cell_at, frame_at, counted, push_cell, push_frame, push_thread};
 
 use bytes_at::byte_at;
 use machine::{Cell, Frame, Held, Kept};
@@ -84,7 +84,7 @@ pub fn in_use(run: &[u8]) -> InUse
     }
 }
 
-// What a cell of this kind keeps.
+// What a cell keeps, from the three numbers of its slot. The kinds are the cases of `Kept` as bytes, known here and in `kept_numbers` alone.
 #[tactic(auto, unfolding(crate::specs::RunMemory::kept_of))]
 fn kept_of(kind: u8, row: u8, cell: u16) -> Kept
     ensures { result ≡ kept_of kind row cell }
@@ -97,32 +97,103 @@ fn kept_of(kind: u8, row: u8, cell: u16) -> Kept
     }
 }
 
-// The cell of this number.
-#[tactic(auto, unfolding(crate::specs::RunMemory::cell_at, crate::specs::RunMemory::cell_of_slot))]
-pub fn cell_at(run: &[u8], k: u16) -> Cell
-    ensures { result ≡ cell_at run.now k }
+// The kind, the row and the cell that a slot has for what a cell keeps.
+fn kept_numbers(kept: Kept) -> (u8, u8, u16)
+    ensures { result ≡ (kind_of kept, row_of kept, cell_of kept) }
 {
-    let s = slot_at(run, k);
-    Cell {
-        name: s.a,
-        older: s.d,
-        kept: kept_of(s.b, s.c, s.e),
+    match kept {
+        Kept::Keeps(Held::Unit) => (0, 0, 0),
+        Kept::Makes => (1, 0, 0),
+        Kept::Keeps(Held::Channel(cell)) => (2, 0, cell),
+        Kept::Keeps(Held::Closure(row, cell)) => (3, row, cell),
     }
 }
 
+impl From<Slot> for Cell {
+    ghost use Rattle.std.specs.Prelude.{◌≡◌};
+    ghost use Rattle.run_memory.specs.RunMemory.{cell_of_slot};
+
+    ghost from_gives = { λ s c. c ≡ cell_of_slot s };
+
+    #[tactic(auto, unfolding(crate::specs::RunMemory::cell_of_slot))]
+    fn from(s: Slot) -> Cell {
+        Cell {
+            name: s.a,
+            older: s.d,
+            kept: kept_of(s.b, s.c, s.e),
+        }
+    }
+}
+
+impl From<Cell> for Slot {
+    ghost use Rattle.std.specs.Prelude.{◌≡◌};
+    ghost use Rattle.run_memory.specs.RunMemory.{slot_of_cell};
+
+    ghost from_gives = { λ c s. s ≡ slot_of_cell c };
+
+    #[tactic(auto, unfolding(crate::specs::RunMemory::slot_of_cell))]
+    fn from(cell: Cell) -> Slot {
+        let (kind, row, value) = kept_numbers(cell.kept);
+        Slot {
+            a: cell.name,
+            b: kind,
+            c: row,
+            d: cell.older,
+            e: value,
+        }
+    }
+}
+
+impl From<Slot> for Frame {
+    ghost use Rattle.std.specs.Prelude.{◌≡◌};
+    ghost use Rattle.run_memory.specs.RunMemory.{frame_of_slot};
+
+    ghost from_gives = { λ s f. f ≡ frame_of_slot s };
+
+    #[tactic(auto, unfolding(crate::specs::RunMemory::frame_of_slot))]
+    fn from(s: Slot) -> Frame {
+        Frame {
+            name: s.a,
+            rest: s.b,
+            cell: s.d,
+            older: s.e,
+        }
+    }
+}
+
+impl From<Frame> for Slot {
+    ghost use Rattle.std.specs.Prelude.{◌≡◌};
+    ghost use Rattle.run_memory.specs.RunMemory.{slot_of_frame};
+
+    ghost from_gives = { λ f s. s ≡ slot_of_frame f };
+
+    #[tactic(auto, unfolding(crate::specs::RunMemory::slot_of_frame))]
+    fn from(frame: Frame) -> Slot {
+        Slot {
+            a: frame.name,
+            b: frame.rest,
+            c: 0,
+            d: frame.cell,
+            e: frame.older,
+        }
+    }
+}
+
+// The cell of this number.
+#[tactic(auto, unfolding(crate::specs::RunMemory::cell_at))]
+pub fn cell_at(run: &[u8], k: u16) -> Cell
+    ensures { result ≡ cell_at run.now k }
+{
+    Cell::from(slot_at(run, k))
+}
+
 // The frame of this number.
-#[tactic(auto, unfolding(crate::specs::RunMemory::frame_at, crate::specs::RunMemory::frame_of_slot))]
+#[tactic(auto, unfolding(crate::specs::RunMemory::frame_at))]
 pub fn frame_at(run: &[u8], k: u16) -> Frame
     requires { k ≤ frame_limit }
     ensures { result ≡ frame_at run.now k }
 {
-    let s = slot_at(run, Run::CELLS + k);
-    Frame {
-        name: s.a,
-        rest: s.b,
-        cell: s.d,
-        older: s.e,
-    }
+    Frame::from(slot_at(run, Run::CELLS + k))
 }
 
 // Writes a slot.
@@ -160,54 +231,6 @@ pub fn put_counts(run: &mut [u8], n: InUse)
     put_slot(run, 0, s);
 }
 
-// The slot of a cell that keeps a value.
-#[tactic(auto, unfolding(crate::specs::RunMemory::slot_of_cell))]
-fn slot_of_held(name: u8, older: u16, held: Held) -> Slot
-    ensures { result ≡ slot_of_cell (record { name = name; older = older; kept = Kept.Keeps held }) }
-{
-    match held {
-        Held::Unit => Slot {
-            a: name,
-            b: 0,
-            c: 0,
-            d: older,
-            e: 0,
-        },
-        Held::Channel(k) => Slot {
-            a: name,
-            b: 2,
-            c: 0,
-            d: older,
-            e: k,
-        },
-        Held::Closure(r, k) => Slot {
-            a: name,
-            b: 3,
-            c: r,
-            d: older,
-            e: k,
-        },
-    }
-}
-
-// The slot of a cell.
-#[tactic(auto, unfolding(crate::specs::RunMemory::slot_of_cell))]
-fn slot_of_cell(cell: Cell) -> Slot
-    ensures { result ≡ slot_of_cell cell }
-{
-    let kept = cell.kept;
-    match kept {
-        Kept::Makes => Slot {
-            a: cell.name,
-            b: 1,
-            c: 0,
-            d: cell.older,
-            e: 0,
-        },
-        Kept::Keeps(held) => slot_of_held(cell.name, cell.older, held),
-    }
-}
-
 // Takes a cell.
 #[tactic(auto, unfolding(crate::specs::RunMemory::push_cell))]
 pub fn push_cell(run: &mut [u8], cell: Cell)
@@ -217,15 +240,8 @@ pub fn push_cell(run: &mut [u8], cell: Cell)
 {
     let n = in_use(run);
     let cells = n.cells + 1;
-    put_slot(run, cells, slot_of_cell(cell));
-    put_counts(
-        run,
-        InUse {
-            threads: n.threads,
-            cells: cells,
-            frames: n.frames,
-        },
-    );
+    put_slot(run, cells, Slot::from(cell));
+    put_counts(run, InUse { cells, ..n });
 }
 
 // The number of the frame that is taken next.
@@ -233,12 +249,11 @@ pub fn next_frame(run: &[u8]) -> u16
     requires { InLimits run.now }
     ensures { result ≡ next_frame (memory_in run.now) }
 {
-    let n = in_use(run);
-    n.frames + 1
+    in_use(run).frames + 1
 }
 
 // Takes a frame. Nothing is given back during a run.
-#[tactic(auto, unfolding(crate::specs::RunMemory::push_frame, crate::specs::RunMemory::slot_of_frame))]
+#[tactic(auto, unfolding(crate::specs::RunMemory::push_frame))]
 pub fn push_frame(run: &mut [u8], frame: Frame)
     requires run_size_in_bounds { run_size ≤ length run.old }
     requires run_bound { (in_use run.old).frames < frame_limit }
@@ -246,25 +261,8 @@ pub fn push_frame(run: &mut [u8], frame: Frame)
 {
     let n = in_use(run);
     let frames = n.frames + 1;
-    put_slot(
-        run,
-        Run::CELLS + frames,
-        Slot {
-            a: frame.name,
-            b: frame.rest,
-            c: 0,
-            d: frame.cell,
-            e: frame.older,
-        },
-    );
-    put_counts(
-        run,
-        InUse {
-            threads: n.threads,
-            cells: n.cells,
-            frames: frames,
-        },
-    );
+    put_slot(run, Run::CELLS + frames, Slot::from(frame));
+    put_counts(run, InUse { frames, ..n });
 }
 
 // Counts one thread more.
@@ -275,12 +273,6 @@ pub fn push_thread(run: &mut [u8])
     ensures { run.new ≡ push_thread run.old }
 {
     let n = in_use(run);
-    put_counts(
-        run,
-        InUse {
-            threads: n.threads + 1,
-            cells: n.cells,
-            frames: n.frames,
-        },
-    );
+    let threads = n.threads + 1;
+    put_counts(run, InUse { threads, ..n });
 }

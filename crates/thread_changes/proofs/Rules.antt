@@ -7,19 +7,19 @@ use mathlib.Core.Path.{◌≡◌, refl, sym, ◌∙◌, ap, ap₂}
 use Rattle.program.specs.declared.Row.{Row}
 use Rattle.program.specs.declared.Bind.{Bind}
 use Rattle.program.specs.declared.Form.{Form}
-use Rattle.program.specs.Program.{Program, row_at}
-use Rattle.program.specs.Maybe.{◌<|>◌}
+use Rattle.program.specs.Program.{Program, row_at, pair_at}
+use Rattle.program.specs.Maybe.{◌>>=◌, ◌<|>◌}
 use Rattle.format.specs.Text.{Bytes}
 use Rattle.machine.specs.declared.ThreadRecord.{ThreadRecord}
 use Rattle.machine.specs.declared.Held.{Held}
 use Rattle.machine.specs.declared.Held.TheVariants.{Closure}
 use Rattle.machine.specs.declared.Kept.{Kept}
 use Rattle.machine.specs.declared.Kept.TheVariants.{Keeps}
-use Rattle.machine.specs.Machine.{Memory, Change, bound, newest, next_frame, return_of, go_on, fork, go_into, form_change, result_change, change}
+use Rattle.machine.specs.Machine.{Memory, Change, bound, newest, next_frame, return_of, find_closure, go_on, fork, go_into, form_change, result_change, change}
 use Rattle.run_memory.specs.declared.InUse.{InUse}
 use Rattle.run_memory.specs.RunMemory.{in_use, memory_in}
 use Rattle.run_memory.proofs.Codec.{newest_is}
-use Rattle.thread_changes.specs.Changes.{change_of}
+use Rattle.thread_changes.specs.Changes.{change_of, pair_of_name, goes_on_with}
 
 pub either_none : {A : Type 0} (o : Option A) → o <|> none ≡ o
 unfolding ◌<|>◌
@@ -34,14 +34,14 @@ abbrev record_of : ℕ → ℕ → ℕ → ThreadRecord
 record_of r c f = record { row = r; cell = c; frame = f }
 
 module _ (run : Bytes) (t : ThreadRecord) (b : Bind) (n : InUse) (e : n ≡ in_use run) where
-  pub goes_on : (kept : Kept) → some (change_of (bound b.name t.cell kept ∷ []) [] (record { row = b.rest; cell = n.cells + 1; frame = t.frame }) []) ≡ some (go_on (memory_in run) t b kept)
+  pub goes_on : (kept : Kept) → change_of (bound b.name t.cell kept ∷ []) [] (record { row = b.rest; cell = n.cells + 1; frame = t.frame }) [] ≡ go_on (memory_in run) t b kept
   unfolding go_on
-  goes_on kept = ap (λ (k : ℕ). some (change_of (bound b.name t.cell kept ∷ []) [] (record_of b.rest k t.frame) [])) (newest_next run n e)
+  goes_on kept = ap (λ (k : ℕ). change_of (bound b.name t.cell kept ∷ []) [] (record_of b.rest k t.frame) []) (newest_next run n e)
 
   pub forks : (child : ℕ)
-      → some (change_of (bound b.name t.cell (Keeps Held.Unit) ∷ []) [] (record { row = b.rest; cell = n.cells + 1; frame = t.frame }) (record { row = child; cell = t.cell; frame = 0 } ∷ [])) ≡ some (fork (memory_in run) t b child)
+      → change_of (bound b.name t.cell (Keeps Held.Unit) ∷ []) [] (record { row = b.rest; cell = n.cells + 1; frame = t.frame }) (record { row = child; cell = t.cell; frame = 0 } ∷ []) ≡ fork (memory_in run) t b child
   unfolding fork
-  forks child = ap (λ (k : ℕ). some (change_of (bound b.name t.cell (Keeps Held.Unit) ∷ []) [] (record_of b.rest k t.frame) (record_of child t.cell 0 ∷ []))) (newest_next run n e)
+  forks child = ap (λ (k : ℕ). change_of (bound b.name t.cell (Keeps Held.Unit) ∷ []) [] (record_of b.rest k t.frame) (record_of child t.cell 0 ∷ [])) (newest_next run n e)
 
   pub enters : (row name : ℕ) (v : Held) (f : ℕ) → f ≡ next_frame (memory_in run)
       → some (change_of (bound name t.cell (Keeps v) ∷ []) (return_of t b ∷ []) (record { row = row; cell = n.cells + 1; frame = f }) [])
@@ -76,3 +76,25 @@ module _ (p : Program) (m : Memory) (t : ThreadRecord) where
     where
       at_bind : row_at p t.row ≡ Row.Bind b → change p m t ≡ form_change p m t b b.form
       at_bind e = rw (e, change)
+
+-- first and second go on with the value of one name of a pair
+module _ (p : Program) (m : Memory) (t : ThreadRecord) (b : Bind) (a : ℕ) where
+  pair_then : {A : Type 0} (f : ℕ × ℕ × ℕ → Option A) → (pair_of_name p m t a >>= f) ≡ (find_closure m.cells t.cell a >>= λ (r, k). pair_at p r >>= λ (x, y). f (x, y, k))
+  unfolding pair_of_name ◌>>=◌
+  pair_then f = go (find_closure m.cells t.cell a)
+    where
+      inner : (k : ℕ) (o : Option (ℕ × ℕ)) → ((o >>= λ (x, y). some (x, y, k)) >>= f) ≡ (o >>= λ (x, y). f (x, y, k))
+      inner k none = refl
+      inner k (some (x, y)) = refl
+
+      go : (o : Option (ℕ × ℕ)) → ((o >>= λ (r, k). pair_at p r >>= λ (x, y). some (x, y, k)) >>= f) ≡ (o >>= λ (r, k). pair_at p r >>= λ (x, y). f (x, y, k))
+      go none = refl
+      go (some (r, k)) = inner k (pair_at p r)
+
+  pub by_first : (pair_of_name p m t a >>= λ (x, y, k). goes_on_with m t b k x) ≡ form_change p m t b (Form.First a)
+  unfolding goes_on_with form_change
+  by_first = pair_then (λ (x, y, k). goes_on_with m t b k x)
+
+  pub by_second : (pair_of_name p m t a >>= λ (x, y, k). goes_on_with m t b k y) ≡ form_change p m t b (Form.Second a)
+  unfolding goes_on_with form_change
+  by_second = pair_then (λ (x, y, k). goes_on_with m t b k y)

@@ -2,17 +2,14 @@
 #![tactic(auto)]
 
 ghost use Rattle.std.specs.Prelude.{◌≡◌};
-ghost use Rattle.std.specs.Prelude.{Some as some};
 ghost use Rattle.program.specs.declared.Form.{Form};
-ghost use Rattle.machine.specs.declared.Held.{Held};
-ghost use Rattle.machine.specs.declared.Kept.{Kept};
 ghost use Rattle.machine.specs.Machine.{return_of, go_on, fork, form_change, result_change, change};
 ghost use Rattle.run_memory.specs.RunMemory.{InLimits, memory_in};
 ghost use Rattle.store.specs.Rows.{store_program};
-ghost use Rattle.thread_changes.specs.Changes.{change_in, goes_on_with, enters_with};
+ghost use Rattle.thread_changes.specs.Changes.{change_by, change_in, pair_of_name, goes_on_with, enters_with};
 
 use forms::{form_at, row_in};
-use lookups::{ClosureFound, Found, FrameFound, find, find_closure, find_frame};
+use lookups::{find, find_closure, find_frame};
 use machine::{Cell, Frame, Held, Kept, ThreadRecord};
 use program::{Bind, Form, Row};
 use run_memory::{in_use, next_frame};
@@ -20,7 +17,6 @@ use run_memory::{in_use, next_frame};
 // What a move takes, the newest cell first, the thread's record after it, and that of the thread that it starts.
 #[derive(Drop)]
 pub enum ThreadChange {
-    Nothing,
     Binds(Cell, ThreadRecord),
     Spawns(Cell, ThreadRecord, ThreadRecord),
     Enters(Cell, Frame, ThreadRecord),
@@ -31,18 +27,17 @@ pub enum ThreadChange {
 #[tactic(auto, using(crate::proofs::Rules::goes_on))]
 pub fn go_on(run: &[u8], t: ThreadRecord, b: Bind, kept: Kept) -> ThreadChange
     requires { InLimits run.now }
-    ensures { change_in result ≡ some (go_on (memory_in run.now) t b kept) }
+    ensures { change_by result ≡ go_on (memory_in run.now) t b kept }
 {
     let n = in_use(run);
-    let newest = n.cells + 1;
     let cell = Cell {
         name: b.name,
         older: t.cell,
-        kept: kept,
+        kept,
     };
     let after = ThreadRecord {
         row: b.rest,
-        cell: newest,
+        cell: n.cells + 1,
         frame: t.frame,
     };
     ThreadChange::Binds(cell, after)
@@ -52,10 +47,9 @@ pub fn go_on(run: &[u8], t: ThreadRecord, b: Bind, kept: Kept) -> ThreadChange
 #[tactic(auto, using(crate::proofs::Rules::forks))]
 fn fork(run: &[u8], t: ThreadRecord, b: Bind, child: u8) -> ThreadChange
     requires { InLimits run.now }
-    ensures { change_in result ≡ some (fork (memory_in run.now) t b child) }
+    ensures { change_by result ≡ fork (memory_in run.now) t b child }
 {
     let n = in_use(run);
-    let newest = n.cells + 1;
     let cell = Cell {
         name: b.name,
         older: t.cell,
@@ -63,7 +57,7 @@ fn fork(run: &[u8], t: ThreadRecord, b: Bind, child: u8) -> ThreadChange
     };
     let after = ThreadRecord {
         row: b.rest,
-        cell: newest,
+        cell: n.cells + 1,
         frame: t.frame,
     };
     let born = ThreadRecord {
@@ -96,80 +90,43 @@ fn enter(
     name: u8,
     from: u16,
     value: u8,
-) -> ThreadChange
+) -> Option<ThreadChange>
     requires { InLimits run.now }
     ensures { change_in result ≡ enters_with (memory_in run.now) t b row name from value }
 {
-    let Found::Value(held) = find(run, from, value) else {
-        return ThreadChange::Nothing;
-    };
+    let held = find(run, from, value)?;
     let n = in_use(run);
-    let newest = n.cells + 1;
-    let frame = next_frame(run);
     let cell = Cell {
-        name: name,
+        name,
         older: t.cell,
         kept: Kept::Keeps(held),
     };
     let after = ThreadRecord {
-        row: row,
-        cell: newest,
-        frame: frame,
+        row,
+        cell: n.cells + 1,
+        frame: next_frame(run),
     };
-    ThreadChange::Enters(cell, return_of(t, b), after)
+    Some(ThreadChange::Enters(cell, return_of(t, b), after))
 }
 
 // On to the rest with the value that a name has from a cell on.
-fn go_on_with(run: &[u8], t: ThreadRecord, b: Bind, from: u16, value: u8) -> ThreadChange
+fn go_on_with(run: &[u8], t: ThreadRecord, b: Bind, from: u16, value: u8) -> Option<ThreadChange>
     requires { InLimits run.now }
     ensures { change_in result ≡ goes_on_with (memory_in run.now) t b from value }
 {
-    let Found::Value(held) = find(run, from, value) else {
-        return ThreadChange::Nothing;
-    };
-    go_on(run, t, b, Kept::Keeps(held))
+    let held = find(run, from, value)?;
+    Some(go_on(run, t, b, Kept::Keeps(held)))
 }
 
-// First: the value of a pair's first name.
-fn first_change(
-    store: &[u8],
-    rows: u8,
-    run: &[u8],
-    t: ThreadRecord,
-    b: Bind,
-    pair: u8,
-) -> ThreadChange
-    requires { InLimits run.now }
-    ensures { change_in result ≡ form_change (store_program rows store.now) (memory_in run.now) t b (Form.First pair) }
+// The pair that a name has: its two names, and the newest cell of its environment.
+fn find_pair(store: &[u8], rows: u8, run: &[u8], t: ThreadRecord, pair: u8) -> Option<(u8, u8, u16)>
+    ensures { result ≡ pair_of_name (store_program rows store.now) (memory_in run.now) t pair }
 {
-    let ClosureFound::Closure(r, k) = find_closure(run, t.cell, pair) else {
-        return ThreadChange::Nothing;
+    let (r, k) = find_closure(run, t.cell, pair)?;
+    let Form::Pair { first, second } = form_at(store, rows, r) else {
+        return None;
     };
-    let Form::Pair { first, second: _ } = form_at(store, rows, r) else {
-        return ThreadChange::Nothing;
-    };
-    go_on_with(run, t, b, k, first)
-}
-
-// Second: the value of a pair's second name.
-fn second_change(
-    store: &[u8],
-    rows: u8,
-    run: &[u8],
-    t: ThreadRecord,
-    b: Bind,
-    pair: u8,
-) -> ThreadChange
-    requires { InLimits run.now }
-    ensures { change_in result ≡ form_change (store_program rows store.now) (memory_in run.now) t b (Form.Second pair) }
-{
-    let ClosureFound::Closure(r, k) = find_closure(run, t.cell, pair) else {
-        return ThreadChange::Nothing;
-    };
-    let Form::Pair { first: _, second } = form_at(store, rows, r) else {
-        return ThreadChange::Nothing;
-    };
-    go_on_with(run, t, b, k, second)
+    Some((first, second, k))
 }
 
 // Case: into the branch of a left or a right value.
@@ -180,25 +137,20 @@ fn case_change(
     t: ThreadRecord,
     b: Bind,
     subject: u8,
-    leftname: u8,
+    left_name: u8,
     left: u8,
-    rightname: u8,
+    right_name: u8,
     right: u8,
-) -> ThreadChange
+) -> Option<ThreadChange>
     requires { InLimits run.now }
-    ensures { change_in result ≡ form_change (store_program rows store.now) (memory_in run.now) t b (Form.Case subject leftname left rightname right) }
+    ensures { change_in result ≡ form_change (store_program rows store.now) (memory_in run.now) t b (Form.Case subject left_name left right_name right) }
 {
-    let ClosureFound::Closure(r, k) = find_closure(run, t.cell, subject) else {
-        return ThreadChange::Nothing;
-    };
-    let form = form_at(store, rows, r);
-    if let Form::Left { value } = form {
-        return enter(run, t, b, left, leftname, k, value);
+    let (r, k) = find_closure(run, t.cell, subject)?;
+    match form_at(store, rows, r) {
+        Form::Left { value } => enter(run, t, b, left, left_name, k, value),
+        Form::Right { value } => enter(run, t, b, right, right_name, k, value),
+        _ => None,
     }
-    let Form::Right { value } = form else {
-        return ThreadChange::Nothing;
-    };
-    enter(run, t, b, right, rightname, k, value)
 }
 
 // Apply: into the body, in the fun value's environment.
@@ -211,24 +163,20 @@ fn apply_change(
     b: Bind,
     function: u8,
     argument: u8,
-) -> ThreadChange
+) -> Option<ThreadChange>
     requires { InLimits run.now }
     ensures { change_in result ≡ form_change (store_program rows store.now) (memory_in run.now) t b (Form.Apply function argument) }
 {
-    let ClosureFound::Closure(r, k) = find_closure(run, t.cell, function) else {
-        return ThreadChange::Nothing;
-    };
+    let (r, k) = find_closure(run, t.cell, function)?;
     let Form::Fun {
         own,
         parameter,
         body,
     } = form_at(store, rows, r)
     else {
-        return ThreadChange::Nothing;
+        return None;
     };
-    let Found::Value(held) = find(run, t.cell, argument) else {
-        return ThreadChange::Nothing;
-    };
+    let held = find(run, t.cell, argument)?;
     let n = in_use(run);
     let newest = n.cells + 1;
     let after = ThreadRecord {
@@ -246,38 +194,37 @@ fn apply_change(
         older: newest,
         kept: Kept::Keeps(held),
     };
-    ThreadChange::Applies(parameter_cell, own_cell, return_of(t, b), after)
+    Some(ThreadChange::Applies(parameter_cell, own_cell, return_of(t, b), after))
 }
 
-// A value row: the row with the present environment.
-fn value_change(run: &[u8], t: ThreadRecord, b: Bind) -> ThreadChange
-    requires { InLimits run.now }
-    ensures { change_in result ≡ some (go_on (memory_in run.now) t b (Kept.Keeps (Held.Closure t.row t.cell))) }
-{
-    let kept = Kept::Keeps(Held::Closure(t.row, t.cell));
-    go_on(run, t, b, kept)
-}
-
-// A bind: the rule of its form. At a sync no thread moves alone.
+// A bind: the rule of its form. A value row has itself with the present environment; at a sync no thread moves alone.
 #[tactic(auto, using(crate::proofs::Rules::by_form), unfolding(machine::specs::Machine::form_change))]
-fn form_change(store: &[u8], rows: u8, run: &[u8], t: ThreadRecord, b: Bind) -> ThreadChange
+fn form_change(store: &[u8], rows: u8, run: &[u8], t: ThreadRecord, b: Bind) -> Option<ThreadChange>
     requires { InLimits run.now }
     ensures { change_in result ≡ form_change (store_program rows store.now) (memory_in run.now) t b b.form }
 {
-    let form = b.form;
-    match form {
-        Form::Unit => go_on(run, t, b, Kept::Keeps(Held::Unit)),
-        Form::Chan => go_on(run, t, b, Kept::Makes),
-        Form::Send { .. } => value_change(run, t, b),
-        Form::Recv { .. } => value_change(run, t, b),
-        Form::Pair { .. } => value_change(run, t, b),
-        Form::Left { .. } => value_change(run, t, b),
-        Form::Right { .. } => value_change(run, t, b),
-        Form::Fun { .. } => value_change(run, t, b),
-        Form::Spawn { child } => fork(run, t, b, child),
-        Form::Sync { .. } => ThreadChange::Nothing,
-        Form::First { pair } => first_change(store, rows, run, t, b, pair),
-        Form::Second { pair } => second_change(store, rows, run, t, b, pair),
+    match b.form {
+        Form::Unit => Some(go_on(run, t, b, Kept::Keeps(Held::Unit))),
+        Form::Chan => Some(go_on(run, t, b, Kept::Makes)),
+        Form::Send { .. }
+        | Form::Recv { .. }
+        | Form::Pair { .. }
+        | Form::Left { .. }
+        | Form::Right { .. }
+        | Form::Fun { .. } => {
+            let kept = Kept::Keeps(Held::Closure(t.row, t.cell));
+            Some(go_on(run, t, b, kept))
+        }
+        Form::Spawn { child } => Some(fork(run, t, b, child)),
+        Form::Sync { .. } => None,
+        Form::First { pair } => {
+            let (first, _, k) = find_pair(store, rows, run, t, pair)?;
+            go_on_with(run, t, b, k, first)
+        }
+        Form::Second { pair } => {
+            let (_, second, k) = find_pair(store, rows, run, t, pair)?;
+            go_on_with(run, t, b, k, second)
+        }
         Form::Case {
             subject,
             left_name,
@@ -295,18 +242,13 @@ fn form_change(store: &[u8], rows: u8, run: &[u8], t: ThreadRecord, b: Bind) -> 
 
 // A result: the last pushed return that waits.
 #[tactic(auto, using(crate::proofs::Rules::newest_next))]
-fn result_change(run: &[u8], t: ThreadRecord, name: u8) -> ThreadChange
+fn result_change(run: &[u8], t: ThreadRecord, name: u8) -> Option<ThreadChange>
     requires { InLimits run.now }
     ensures { change_in result ≡ result_change (memory_in run.now) t name }
 {
-    let FrameFound::Waits(frame) = find_frame(run, t.frame) else {
-        return ThreadChange::Nothing;
-    };
-    let Found::Value(held) = find(run, t.cell, name) else {
-        return ThreadChange::Nothing;
-    };
+    let frame = find_frame(run, t.frame)?;
+    let held = find(run, t.cell, name)?;
     let n = in_use(run);
-    let newest = n.cells + 1;
     let cell = Cell {
         name: frame.name,
         older: frame.cell,
@@ -314,15 +256,15 @@ fn result_change(run: &[u8], t: ThreadRecord, name: u8) -> ThreadChange
     };
     let after = ThreadRecord {
         row: frame.rest,
-        cell: newest,
+        cell: n.cells + 1,
         frame: frame.older,
     };
-    ThreadChange::Binds(cell, after)
+    Some(ThreadChange::Binds(cell, after))
 }
 
 // What a thread's own move does.
 #[tactic(auto, using(crate::proofs::Rules::by_result, crate::proofs::Rules::by_bind))]
-pub fn change(store: &[u8], rows: u8, run: &[u8], t: ThreadRecord) -> ThreadChange
+pub fn change(store: &[u8], rows: u8, run: &[u8], t: ThreadRecord) -> Option<ThreadChange>
     requires { InLimits run.now }
     ensures { change_in result ≡ change (store_program rows store.now) (memory_in run.now) t }
 {

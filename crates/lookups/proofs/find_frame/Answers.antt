@@ -11,10 +11,10 @@ pub returns-then-k-eq0 : goal.returns-then-k-eq0
 unfolding memory_in
 returns-then-k-eq0 c = rw c.if-k-eq0.true (sym (frame_zero _ _))
 
-pub returns-then-n-k : goal.returns-then-n-k
+pub returns-then-in_use-k : goal.returns-then-in_use-k
 unfolding memory_in
-returns-then-n-k c = let e = ap (λ (n : InUse). n.frames) c.in_use-n.ensures in sym (frame_above _ _ _ (omega (arith, e, c.if-n-k.true)))
+returns-then-in_use-k c = let e = ap (λ (n : InUse). n.frames) c.in_use.ensures in sym (frame_above _ _ _ (omega (arith, e, c.if-in_use-k.true)))
 
 pub returns : goal.returns
 unfolding memory_in
-returns c = let e = ap (λ (n : InUse). n.frames) c.in_use-n.ensures in ap some c.frame_at.ensures ∙ sym (frame_there _ _ _ (omega (arith, c.if-k-eq0.false)) (omega (arith, e, c.if-n-k.false)))
+returns c = let e = ap (λ (n : InUse). n.frames) c.in_use.ensures in ap some c.frame_at.ensures ∙ sym (frame_there _ _ _ (omega (arith, c.if-k-eq0.false)) (omega (arith, e, c.if-in_use-k.false)))

@@ -6,4 +6,4 @@ use Rattle.run_memory.proofs.Codec.{frames_are}
 use Rattle.run_memory.proofs.next_frame.Goals as goal
 
 pub returns : goal.returns
-returns c = simp towards_suc (ap suc (ap (λ (n : InUse). n.frames) c.in_use-n.ensures ∙ sym (frames_are _)))
+returns c = simp towards_suc (ap suc (ap (λ (n : InUse). n.frames) c.in_use.ensures ∙ sym (frames_are _)))

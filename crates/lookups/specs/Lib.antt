@@ -1,2 +1,0 @@
--- What a look-up answers.
-pub mod Found
