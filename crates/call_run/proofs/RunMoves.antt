@@ -66,11 +66,11 @@ module _ (p : Program) (run : Bytes) (ts : List ThreadRecord) where
     no_receiver s r m l = rw (there ts (in_use run).threads s m enough, absent ts (in_use run).threads r l)
 
     -- threads that are there
-    pub alone_is : (n : ℕ) (x : ThreadChange) {t : ThreadRecord} → n < (in_use run).threads → t ≡ get_or ts n no_record → change_in x ≡ change p (memory_in run) t → alone_in n x ≡ changes p (machine_in run ts) (alone n)
+    pub alone_is : (n : ℕ) (x : Option ThreadChange) {t : ThreadRecord} → n < (in_use run).threads → t ≡ get_or ts n no_record → change_in x ≡ change p (memory_in run) t → alone_in n x ≡ changes p (machine_in run ts) (alone n)
     unfolding alone_in changes machine_in ◌>>=◌
     alone_is n x l at e = rw (there ts (in_use run).threads n l enough, ← at, e)
 
-    pub together_is : (s r : ℕ) (x : Met) {a b : ThreadRecord} → s < (in_use run).threads → r < (in_use run).threads → a ≡ get_or ts s no_record → b ≡ get_or ts r no_record → meeting_in x ≡ meeting p (memory_in run) a b
+    pub together_is : (s r : ℕ) (x : Option Met) {a b : ThreadRecord} → s < (in_use run).threads → r < (in_use run).threads → a ≡ get_or ts s no_record → b ≡ get_or ts r no_record → meeting_in x ≡ meeting p (memory_in run) a b
         → together_in s r x ≡ changes p (machine_in run ts) (together s r)
     unfolding together_in changes machine_in ◌>>=◌
     together_is s r x l m at at' e = rw (there ts (in_use run).threads s l enough, there ts (in_use run).threads r m enough, ← at, ← at', e)

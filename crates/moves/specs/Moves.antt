@@ -15,8 +15,8 @@ abbrev pub moved_of : RunAnswer → Records → Moved
 moved_of answer records = record { answer = answer; records = records }
 
 -- the changes of a move: of one thread alone, and of a receiver and then a sender
-unfoldable pub alone_in : ℕ → ThreadChange → Option (List (ℕ × Change))
+unfoldable pub alone_in : ℕ → Option ThreadChange → Option (List (ℕ × Change))
 alone_in n x = change_in x >>= λ c. some ((n, c) ∷ [])
 
-unfoldable pub together_in : ℕ → ℕ → Met → Option (List (ℕ × Change))
+unfoldable pub together_in : ℕ → ℕ → Option Met → Option (List (ℕ × Change))
 together_in sender receiver x = meeting_in x >>= λ (c, d). some ((receiver, c) ∷ (sender, d) ∷ [])

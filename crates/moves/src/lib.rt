@@ -34,16 +34,9 @@ fn has_room(run: &[u8], cells: u16, frames: u16, threads: u8) -> bool
     ensures { result ≡ has_room (in_use run.now) cells frames threads }
 {
     let n = in_use(run);
-    let cells_then = cells + n.cells;
-    let frames_then = frames + n.frames;
-    let threads_then = threads + n.threads;
-    if Run::CELLS < cells_then {
-        return false;
-    }
-    if Run::FRAMES < frames_then {
-        return false;
-    }
-    threads_then <= Run::THREADS
+    cells + n.cells <= Run::CELLS
+        && frames + n.frames <= Run::FRAMES
+        && threads + n.threads <= Run::THREADS
 }
 
 // A refusal, with the records as they were.
@@ -52,7 +45,7 @@ pub fn refuse(reason: Reason, records: Records) -> Moved
 {
     Moved {
         answer: Err(reason.at(0)),
-        records: records,
+        records,
     }
 }
 
@@ -60,10 +53,9 @@ pub fn refuse(reason: Reason, records: Records) -> Moved
 fn accept(run: &[u8], records: Records) -> Moved
     ensures { result ≡ moved_of (Ok (in_use run.now).threads) records }
 {
-    let n = in_use(run);
     Moved {
-        answer: Ok(n.threads),
-        records: records,
+        answer: Ok(in_use(run).threads),
+        records,
     }
 }
 
@@ -186,14 +178,21 @@ fn make_both(
 }
 
 // What a thread's own move leaves.
-pub fn make_change(run: &mut [u8], records: Records, n: usize, change: ThreadChange) -> Moved
+pub fn make_change(
+    run: &mut [u8],
+    records: Records,
+    n: usize,
+    change: Option<ThreadChange>,
+) -> Moved
     requires lends { Lends run.old records.list }
     requires in_limits { InLimits run.old }
     requires n_lt_thread_limit { n < thread_limit }
     ensures { LeavesRun (made run.old records.list (alone_in n change)) result.answer run.new result.records.list }
 {
-    match change {
-        ThreadChange::Nothing => refuse(Reason::MoveNotAllowed, records),
+    let Some(allowed) = change else {
+        return refuse(Reason::MoveNotAllowed, records);
+    };
+    match allowed {
         ThreadChange::Binds(cell, t) => make_bind(run, records, n, cell, t),
         ThreadChange::Spawns(cell, t, born) => make_spawn(run, records, n, cell, t, born),
         ThreadChange::Enters(cell, frame, t) => make_enter(run, records, n, cell, frame, t),
@@ -209,7 +208,7 @@ pub fn make_meeting(
     records: Records,
     sender: usize,
     receiver: usize,
-    met: Met,
+    met: Option<Met>,
 ) -> Moved
     requires lends { Lends run.old records.list }
     requires in_limits { InLimits run.old }
@@ -217,9 +216,9 @@ pub fn make_meeting(
     ensures { LeavesRun (made run.old records.list (together_in sender receiver met)) result.answer run.new result.records.list }
 {
     match met {
-        Met::Nothing => refuse(Reason::MoveNotAllowed, records),
-        Met::Meets(received, r, sent, s) => make_both(
-            run, records, receiver, received, r, sender, sent, s,
+        None => refuse(Reason::MoveNotAllowed, records),
+        Some(m) => make_both(
+            run, records, receiver, m.received, m.receiver, sender, m.sent, m.sender,
         ),
     }
 }

@@ -8,7 +8,7 @@ use Rattle.meetings.proofs.both_go_on.Goals as goal
 pub overflow_add-newest : goal.overflow_add-newest
 overflow_add-newest c = let e = ap (λ (n : InUse). n.cells) c.in_use-n.ensures in omega (arith, c.requires.cells, e)
 
-pub overflow_add-result : goal.overflow_add-sender_after
+pub overflow_add-result : goal.overflow_add-result
 overflow_add-result c = let e = ap (λ (n : InUse). n.cells) c.in_use-n.ensures in omega (arith, c.requires.cells, e)
 
 pub returns : goal.returns

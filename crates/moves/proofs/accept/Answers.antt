@@ -7,4 +7,4 @@ use Rattle.moves.specs.Moves.{moved_of}
 use Rattle.moves.proofs.accept.Goals as goal
 
 pub returns : goal.returns
-returns c = ap (λ (n : InUse). moved_of (Ok n.threads) c.args.records) c.in_use-n.ensures
+returns c = ap (λ (n : InUse). moved_of (Ok n.threads) c.args.records) c.in_use.ensures
