@@ -15,7 +15,7 @@ use Rattle.calls.specs.Calls
 use Rattle.report.specs.Report
 use Rattle.example_files.proofs.Files.{file, lines_a, variant, tried}
 
--- what a verdict says, as document 01 numbers it: number and line, or the words as 0 and 1
+-- what a verdict says: number and line, or the words as 0 and 1
 words : VerdictAnswer → Answer
 unfolding Answers.verdict_answer Answers.status_answer Answers.yes_or_no Answers.refusal_answer Refusals.number
 words v = Answers.verdict_answer v
@@ -78,7 +78,7 @@ unfolding tried variant Report.report Report.checked_text Report.judged_text Rep
     Report.yes_no_text Report.accepted_text Report.refused_text Text.digits Text.place Text.argument
 printed text = Report.report text
 
--- of A, as document 01 lists it and with the fifth word of document 02, and of A without flow 4
+-- of A, and of A without flow 4
 listings : map printed (file lines_a ∷ variant 15 [] ∷ [])
     ≡ (file ("[accepted 1]" ∷ "[channel 1 [yes yes yes yes yes]]" ∷ []) ∷ file ("[refused 10 6]" ∷ []) ∷ [])
 unfolding printed

@@ -1,4 +1,4 @@
--- The demands over document 01's numbers and values, from those over the answers: an answer's number or values tell its case.
+-- The demands over the numbers and values of answers, from those over the answers: an answer's number or values tell its case.
 use Rattle.std.specs.Prelude.{Ok, Err}
 use Prim.Native.Nat.{ℕ, ◌≤◌, ◌<◌}
 use native.Mathlib.Omega.{arith}

@@ -41,7 +41,7 @@ unfoldable pub write_answer : WriteAnswer → Answer
 write_answer (Ok n) = answered (n ∷ [])
 write_answer (Err r) = refusal_answer r
 
--- "Verdict answers with four yes or no together", five with document 02, No. 4: 1 for yes, 0 for no
+-- "Verdict answers with four yes or no together", and one-sync as the fifth: 1 for yes, 0 for no
 unfoldable pub yes_or_no : Bool → ℕ
 yes_or_no true = 1
 yes_or_no false = 0

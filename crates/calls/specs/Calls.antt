@@ -70,7 +70,7 @@ unfoldable pub loaded : Bytes → Result Document → Outcome LoadAnswer
 loaded store (refused r) = record { answer = Err r; bytes = refilled store (replicate store_size 0) }
 loaded store (accepted d) = record { answer = Ok (counts d); bytes = refilled store (encode d) }
 
--- what a call that alters a loaded document answers and leaves: what load would on the outcome's text, "were there no length limit" (document 02, No. 1); refused, it alters nothing
+-- what a call that alters a loaded document answers and leaves: what load would on the outcome's text, "were there no length limit"; refused, it alters nothing
 unfoldable pub stored : Bytes → Result Document → Outcome LoadAnswer
 stored store (refused r) = record { answer = Err r; bytes = store }
 stored store (accepted d) = loaded store (accepted d)

@@ -1,4 +1,4 @@
--- What judge and verdict answer of any store, case by case: the propositions that the demands are stated with, in document 01's numbers.
+-- What judge and verdict answer of any store, case by case: the propositions that the demands are stated with, in the numbers of answers.
 use Rattle.std.specs.Prelude.{ℕ, ◌+◌, ◌<◌, ◌≤◌, List, [], ◌∷◌, ◌++◌, ◌≡◌, length, take, replicate}
 use Rattle.std.proofs.Math.Bool.{So}
 use Rattle.std.specs.Prelude.{Some as some}

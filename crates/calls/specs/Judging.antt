@@ -12,7 +12,7 @@ use Rattle.format.specs.Refusals.{refusal, Result, refused, accepted}
 use Rattle.format.specs.Document.{Document, table_of}
 use Rattle.format.specs.Structure.{row_line, claim_line, first_failing}
 
--- "in the order one-shot, one-to-one, fan-out, fan-in", and "one-sync last" (document 02, No. 4)
+-- "in the order one-shot, one-to-one, fan-out, fan-in", and "one-sync last"
 abbrev pub verdict_words : List Word
 verdict_words = OneShot ∷ OneToOne ∷ FanOut ∷ FanIn ∷ OneSync ∷ []
 

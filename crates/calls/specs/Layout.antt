@@ -1,4 +1,4 @@
--- The store: its fixed size and layout. Document 01 leaves both open; what it asks is that a file's document can be read back.
+-- The store: its fixed size and layout, which are ours to choose; a file's document can be read back from it.
 --   rows    8 bytes for each row number: kind, name, rest and five arguments; kind 0 is no row
 --   flows   for each name, a byte of 0 or 1 for each member: unit, then the rows
 --   comms   the same for each row number, of which chan rows have a set

@@ -1,4 +1,4 @@
--- The demands, and what the requests of document 02 promise, as theorems about the definitions of the calls, in document 01's numbers and values (`Answers` of crate calls).
+-- The demands, and what is promised of infer, runs, one-sync, replace and preview, as theorems about the definitions of the calls, in the numbers and values of answers (`Answers` of crate calls).
 -- Their proofs stand in `Calls`, `Exact` and `Numbers` of crate calls, in `Sound/Histories` of crate program and in crates least, inference, replacement, machine and run_calls; here is what they say.
 use Prim.Native.Nat.{ℕ, ◌≤◌, ◌<◌}
 use mathlib.Core.Bool.{Bool, false, So}
@@ -59,7 +59,7 @@ load_too_short = numbers.load_too_short
 pub write_refused : (store out : Bytes) (n line : ℕ) → write_answer (write store out).answer ≡ turned_back n line → (write store out).bytes ≡ out
 write_refused = numbers.write_refused
 
--- Demand 2: "Load takes exactly the files that document 01 describes", answers "the counts of row, flow, comm and claim lines", and the store then holds the file's document
+-- Demand 2: Load takes exactly the files of the format (docs/FORMAT.md), answers "the counts of row, flow, comm and claim lines", and the store then holds the file's document
 pub load_takes : (file store : Bytes) → store_size ≤ length store → (ns : List ℕ)
     → (load_answer (load file store).answer ≡ answered ns)
     ↔ ((d : Document) × (file ≡ document_text d) × So (well_formed d) × (length file ≤ byte_limit)
@@ -113,13 +113,13 @@ pub sound : (file store : Bytes) (ns : List ℕ) (n : ℕ) → load_answer (load
     → (steps : List Step) (maker : Path) → HistoryFits d.rows (run d.rows steps) (made maker name) k.word)
 sound = numbers.sound
 
--- the same of any store that judge accepts, however its bytes came to be there: by load, or by a call of document 02
+-- the same of any store that judge accepts, however its bytes came to be there: by load, by infer or by replace
 pub accepted_sound : (store : Bytes) (n : ℕ) → judge_answer (judge store) ≡ answered (n ∷ []) → (d : Document) × StoreHolds store d
     × ((k : Claim) → Member k d.claims → (name : ℕ) → chan_at d.rows k.channel ≡ some name
     → (steps : List Step) (maker : Path) → HistoryFits d.rows (run d.rows steps) (made maker name) k.word)
 accepted_sound = exact.accepted_sound
 
--- ---- request No. 1, "The smallest tables from the program alone"
+-- ---- "The smallest tables from the program alone"
 
 -- infer of any store: 20, 21 and 22 alter nothing; else the rows and claims keep their bytes, the sets "keep every flow rule, and each set lies inside the same set of any other
 -- tables that do", the outcome is a store that a file would leave, and the answer is the counts of its lines (`Inferred`)
@@ -139,7 +139,7 @@ pub smallest_unique : (p : Program) (flow comm : Table) → KeepsAll p flow comm
     → ((flow' comm' : Table) → KeepsAll p flow' comm' → Within flow flow' × Within comm comm') → (flow ≡ smallest_flow p) × (comm ≡ smallest_comm p)
 smallest_unique = least.smallest_unique
 
--- ---- request No. 3, "A run on the workbench"
+-- ---- "A run on the workbench"
 
 -- "both leave the run as before", and so does every refused call: of any store, run memory and records
 pub begin_refused : (store run : Bytes) (ts : List ThreadRecord) (n line : ℕ) → run_answer (begin store run ts).answer ≡ turned_back n line
@@ -165,7 +165,7 @@ pub watched_histories : (file store : Bytes) (ns : List ℕ) (n : ℕ) → load_
     → (os : List Order) (s : Shown d.rows os) (maker : Path) → HistoryFits d.rows (run d.rows s.steps) (made maker name) k.word)
 watched_histories file store ns n e f = let (d, text, well, fits) = sound file store ns n e f in (d, text, well, λ k m name c os s maker. fits k m name c s.steps maker)
 
--- ---- request No. 4, "One-sync"
+-- ---- "One-sync"
 
 -- "For an instance so claimed in an accepted file, a history holds at most one path at sends and at most one at receives"
 pub one_sync : (file store : Bytes) (ns : List ℕ) (n : ℕ) → load_answer (load file store).answer ≡ answered ns → judge_answer (judge (load file store).bytes) ≡ answered (n ∷ [])
@@ -182,7 +182,7 @@ one_sync file store ns n e f =
           (histories.one_sync_iff d.rows (run d.rows steps) (made maker name)).0 (subst (HistoryFits d.rows (run d.rows steps) (made maker name)) w (fits k m name c steps maker)),
     )
 
--- ---- request No. 5, "Try a set before keeping it"
+-- ---- "Try a set before keeping it"
 
 -- replace of any store, name and set: 20 to 22, then 32, then 33; else the document differs in that one set only, the outcome is a store that a file would leave, and the answer is
 -- the counts of its lines (`Replaced`)

@@ -49,7 +49,7 @@ module _ (file store : Bytes) {answer : LoadAnswer} {left : Bytes} (loads : Leav
   pub load_too_short : length store < store_size → (load_answer answer ≡ turned_back 20 0) × (left ≡ store)
   load_too_short l = let (a, b) = definitions.load_too_short file store l in (sym same ∙ a, loads.bytes_are ∙ b)
 
-  -- Demand 2: "Load takes exactly the files that document 01 describes"
+  -- Demand 2: Load takes exactly the files of the format (docs/FORMAT.md)
   pub load_takes : store_size ≤ length store → (ns : List ℕ)
       → (load_answer answer ≡ answered ns)
       ↔ ((d : Document) × (file ≡ document_text d) × So (well_formed d) × (length file ≤ byte_limit)
@@ -83,7 +83,7 @@ module _ (file store : Bytes) {answer : LoadAnswer} {left : Bytes} (loads : Leav
         → (steps : List Step) (maker : Path) → HistoryFits d.rows (run d.rows steps) (made maker name) k.word)
     sound ns n e f = definitions.sound file store ns n (same ∙ e) (same_judged ∙ f)
 
-    -- Request No. 4: "For an instance so claimed in an accepted file, a history holds at most one path at sends and at most one at receives"
+    -- "For an instance so claimed in an accepted file, a history holds at most one path at sends and at most one at receives"
     pub one_sync : (ns : List ℕ) (n : ℕ) → load_answer answer ≡ answered ns → judge_answer judged ≡ answered (n ∷ [])
         → (d : Document) × (file ≡ document_text d) × So (well_formed d)
         × ((k : Claim) → Member k d.claims → k.word ≡ OneSync → (name : ℕ) → chan_at d.rows k.channel ≡ some name
@@ -130,7 +130,7 @@ module _ (store : Bytes) where
 
 -- infer
 module _ (store : Bytes) {answer : LoadAnswer} {left : Bytes} (infers : Leaves (infer store) answer left) where
-  -- Request No. 1: all answers of infer, with what the store then holds
+  -- All answers of infer, with what the store then holds
   pub infer_exact : InferIs store (load_answer answer)
   infer_exact = rw infers.answer_is (definitions.infer_exact store)
 
@@ -150,7 +150,7 @@ module _ (store : Bytes) {answer : LoadAnswer} {left : Bytes} (infers : Leaves (
 -- replace and preview
 module _ (store : Bytes) (n : ℕ) (unit : Bool) (rows : Bytes) where
   module _ {answer : LoadAnswer} {left : Bytes} (replaces : Leaves (replace store n unit rows) answer left) where
-    -- Request No. 5: all answers of replace, with what the store then holds
+    -- All answers of replace, with what the store then holds
     pub replace_exact : ReplaceIs store n unit rows (load_answer answer)
     replace_exact = rw replaces.answer_is (definitions.replace_exact store n unit rows)
 
@@ -207,7 +207,7 @@ module _ (store run : Bytes) (ts : List ThreadRecord) {answer : RunAnswer} {run'
   pub move_refused : (o : Order) → LeavesRun (move_in store (lent_of run ts) o) answer run' ts' → (n line : ℕ) → run_answer answer ≡ turned_back n line → (run' ≡ run) × (ts' ≡ ts)
   move_refused o leaves n line e = let (r, t) = definitions.move_refused store run ts n line o (ap run_answer (sym leaves.answer_is) ∙ e) in (leaves.run_is ∙ r, leaves.threads_are ∙ t)
 
-  -- Request No. 3: a run that was begun, and then moved, stands for the pool that the steps of its accepted moves leave, and the next move answers as the run rules say
+  -- A run that was begun, and then moved, stands for the pool that the steps of its accepted moves leave, and the next move answers as the run rules say
   pub watched_run : (p : Program) → LeavesRun (begin store run ts) answer run' ts' → RowsAre p store → run_size ≤ length run → thread_limit ≤ length ts
       → (run_answer answer ≡ answered (1 ∷ [])) × ((os : List Order) (l : Lent) → Moved p (lent_of run' ts') os l → WatchedRun p l os)
   watched_run p begins rows long records =

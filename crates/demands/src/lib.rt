@@ -1,2 +1,2 @@
-// The demands of document 01. There is no code here: `proofs/Demands` has them of the definitions of the calls, `proofs/Promises` of the functions of crate checker.
+// The demands. There is no code here: `proofs/Demands` has them of the definitions of the calls, `proofs/Promises` of the functions of crate checker.
 #![tactic(auto)]

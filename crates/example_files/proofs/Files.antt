@@ -1,4 +1,4 @@
--- Standard input A of document 01, files that differ from it in a line, and what load and judge answer of a file: one definition that opens all that computing it needs.
+-- Example A (examples/a.txt), files that differ from it in a line, and what load and judge answer of a file: one definition that opens all that computing it needs.
 use Prim.Native.Nat.{ℕ, zero, suc}
 use Prim.Native.String.{String}
 use mathlib.Core.List.{List, [], ◌∷◌, ◌++◌}

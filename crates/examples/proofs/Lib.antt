@@ -1,2 +1,2 @@
--- The examples of document 01, by computation.
+-- The examples, by computation.
 pub mod Marked

@@ -1,4 +1,4 @@
--- The marked examples of document 01, as one list with one proof, over the definitions of the calls; and two of document 02, No. 4.
+-- The marked examples, as one list with one proof, over the definitions of the calls; and two of one-sync.
 use Prim.Native.String.{String}
 use mathlib.Core.List.{List, [], ◌∷◌, map}
 use mathlib.Core.Path.{◌≡◌, refl}

@@ -1,2 +1,2 @@
-// The examples of document 01, by computation. There is no code here: `proofs/Marked` has the files and what the calls answer of them.
+// The examples, by computation. There is no code here: `proofs/Marked` has the files and what the calls answer of them.
 #![tactic(auto)]

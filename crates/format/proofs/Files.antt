@@ -244,7 +244,7 @@ check_any_iff file d = (λ h. taken (read_file file) refl h, λ (e, w). rw (e, r
     sound none t = refl
     sound (some r) t = absurd (false≢true t)
 
--- Load takes exactly the files that document 01 describes: the texts of well-formed documents that are short enough
+-- Load takes exactly the files of the format: the texts of well-formed documents that are short enough
 pub check_iff : (file : Bytes) (d : Document) → (check file ≡ accepted d) ↔ ((file ≡ document_text d) × So (well_formed d) × (length file ≤ byte_limit))
 unfolding check
 check_iff file d = (λ h. short (ltb byte_limit (length file)) refl h, λ (e, w, l). rw (le-ltb byte_limit (length file) l, check) ((check_any_iff file d).1 (e, w)))

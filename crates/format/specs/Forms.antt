@@ -1,4 +1,4 @@
--- The fourteen forms by a code, 2 to 15 in the order of document 01: how many numbers each holds, and the form of a code and its numbers. A code above 15 counts as
+-- The fourteen forms by a code, 2 to 15 in the order of docs/FORMAT.md: how many numbers each holds, and the form of a code and its numbers. A code above 15 counts as
 -- apply; no table of words has one, and a store that has one is unsound, since its bytes are not those of the document read from it.
 use Rattle.std.specs.Prelude.{ℕ, List, get_or, eqb}
 use Rattle.program.specs.declared.Form.{Form}

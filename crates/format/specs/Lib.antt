@@ -1,4 +1,4 @@
--- What document 01 says of files: documents and their text, reading with refusals 1 to 5, structure with refusals 6 to 9.
+-- Files: documents and their text, reading with refusals 1 to 5, structure with refusals 6 to 9.
 pub mod Limits
 pub mod Refusals
 pub mod Text

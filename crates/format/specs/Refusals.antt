@@ -1,4 +1,4 @@
--- "Turned back because of the input" and "because of the state", and what document 02 adds from 30 on: the numbers of the refusals.
+-- "Turned back because of the input" and "because of the state", and from 30 on because of a move or a set: the numbers of the refusals.
 use Rattle.std.specs.Prelude.{ℕ}
 use Rattle.format.specs.declared.Reason.{Reason}
 use Rattle.format.specs.declared.Refusal.{Refusal}

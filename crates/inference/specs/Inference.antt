@@ -1,4 +1,4 @@
--- No. 1, "The smallest tables from the program alone", as a call: the answer and the lent bytes afterwards, as a function of the store.
+-- "The smallest tables from the program alone", as a call: the answer and the lent bytes afterwards, as a function of the store.
 --   infer   `opened` of calls, then `smallest_document`, then `stored` of calls   (20, 21, 22)
 -- The contract of the public function is equality with `infer`, by `Leaves` of calls.
 use Rattle.std.specs.Prelude.{ℕ, zero, suc, List}

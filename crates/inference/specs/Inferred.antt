@@ -1,4 +1,4 @@
--- What infer answers and leaves of any store: the propositions that the promises of No. 1 are stated with, in document 01's numbers.
+-- What infer answers and leaves of any store: the propositions that its promises are stated with, in the numbers of answers.
 use Rattle.std.proofs.Math.Bool.{So}
 use Rattle.std.specs.Prelude.{[], ◌∷◌, ◌≡◌, length, take, drop}
 use Rattle.program.specs.Each.{Each}

@@ -1,4 +1,4 @@
--- No. 1, "The smallest tables from the program alone": what the flow rules ask, as constraints on sets, and the sets that follow from the constraints.
+-- "The smallest tables from the program alone": what the flow rules ask, as constraints on sets, and the sets that follow from the constraints.
 -- "They keep every flow rule, and each set lies inside the same set of any other tables that do" is a theorem (proofs/Least), and it holds of no other tables.
 use Rattle.std.specs.Prelude.{ℕ, zero, suc, Bool, true, false, not, ◌&&◌, ◌||◌, List, [], ◌∷◌, ◌++◌, map, length, ltb}
 use Rattle.std.proofs.Math.Decide.{ℕ_discrete}

@@ -1,4 +1,4 @@
--- "A run on the workbench" (document 02, No. 3): threads, cells and frames, and what a move makes of them. A bound name takes a cell, a waiting return takes a frame.
+-- A watched run: threads, cells and frames, and what a move makes of them. A bound name takes a cell, a waiting return takes a frame.
 use Rattle.std.specs.Prelude.{ℕ, zero, suc, ◌+◌, Bool, true, ◌&&◌, List, [], ◌∷◌, ◌++◌, length, set, eqb, ltb, leb}
 use Rattle.std.specs.Prelude.{Option, None as none, Some as some}
 use Rattle.program.specs.declared.Row.{Row}

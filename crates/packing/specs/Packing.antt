@@ -19,7 +19,7 @@ packed bits (answered values) = 256 * in_bits bits values
 abbrev pub count_bits : ℕ
 count_bits = 8
 
--- "Verdict answers with four yes or no together", five with document 02, No. 4: a bit each
+-- "Verdict answers with four yes or no together", and one-sync as the fifth: a bit each
 abbrev pub word_bits : ℕ
 word_bits = 1
 

@@ -1,4 +1,4 @@
--- Small programs, by computation: the slips that document 01 names, and runs.
+-- Small programs, by computation: slips that are easily made, and runs.
 use Prim.Native.Nat.{ℕ, zero, suc}
 use native.Mathlib.Decide.{ℕ_discrete}
 use native.Mathlib.Omega.{arith}

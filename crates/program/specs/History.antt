@@ -7,7 +7,7 @@ use Rattle.program.specs.Program.{Program}
 use Rattle.program.specs.Run.{Path, Instance, State, Pool, sends_on, receives_on}
 use Rattle.program.specs.Topology.{Fits}
 
--- "at most one path" (document 02, No. 4): any two that stand so are the same
+-- "at most one path": any two that stand so are the same
 abbrev pub AtMostOne : (Path → Type 0) → Type 0
 AtMostOne stands = (x y : Path) → stands x → stands y → x ≡ y
 

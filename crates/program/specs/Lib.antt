@@ -1,4 +1,4 @@
--- What document 01 says of programs, tables, walks and runs. The files in the order of the document; the first four hold general vocabulary.
+-- Programs, tables, walks and runs. The files in the order of docs/FORMAT.md; the first four hold general vocabulary.
 pub mod Maybe
 pub mod Test
 pub mod Each

@@ -11,7 +11,7 @@ module _ {A : Type 0} (judged : Snoc A → Snoc A → Type 0) where
   EveryTwo ends R = (x y : Snoc A) → judged x y → ends x → ends y → R x y
 
   -- one-shot: any two sends are the same; fan-out: of any two sends one begins the other; fan-in: the same of receives; one-to-one: fan-out and fan-in; many: always;
-  -- of document 02, one-sync: one-shot, and any two receives are the same
+  -- one-sync: one-shot, and any two receives are the same
   unfoldable pub Fits : Word → (Snoc A → Type 0) → (Snoc A → Type 0) → Type 0
   Fits OneShot sends receives = EveryTwo sends (λ x y. x ≡ y)
   Fits OneToOne sends receives = EveryTwo sends Ordered × EveryTwo receives Ordered

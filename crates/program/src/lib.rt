@@ -1,4 +1,4 @@
-// The program of a dispenser file, as document 01's section "The file" describes it.
+// The program of a dispenser file, as docs/FORMAT.md describes it.
 #![tactic(auto)]
 
 // A form is one of these fourteen, with exactly its own names and rows. Numbers are names, except

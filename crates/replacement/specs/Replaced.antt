@@ -1,4 +1,4 @@
--- What replace and preview answer of any store, and what replace leaves: the propositions that the promises of No. 5 are stated with, in the papers' numbers.
+-- What replace and preview answer of any store, and what replace leaves: the propositions that their promises are stated with, in the numbers of answers.
 use Rattle.std.specs.Prelude.{ℕ, ◌+◌, Bool, [], ◌∷◌, ◌≡◌, ◌≢◌, length, take, drop}
 use Rattle.std.proofs.Math.Bool.{So}
 use Rattle.program.specs.Each.{Each, elem}
@@ -28,7 +28,7 @@ MayBeSet d rows = So (rising rows) × Each (λ r. So (value_row d.rows r)) rows
 module _ (store : Bytes) (n : ℕ) (unit : Bool) (rows : Bytes) where
   -- a store that held the document d is left with d', which differs in the set of name n only
   pub record Replaced (d d' : Document) : Type 0 where
-    -- "Replace answers counts as No. 1 does": what load would on the outcome's text, were there no length limit
+    -- Replace answers counts as infer does: what load would on the outcome's text, were there no length limit
     pub loads : replace store n unit rows ≡ loaded store (check_any (document_text d'))
     -- the outcome is a store that some file, of any length, would leave
     pub holds : StoreHolds (replace store n unit rows).bytes d'

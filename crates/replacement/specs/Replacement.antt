@@ -1,4 +1,4 @@
--- No. 5, "Try a set before keeping it", as two calls: the answer and the lent bytes afterwards, as a function of the store and of what is handed over.
+-- "Try a set before keeping it", as two calls: the answer and the lent bytes afterwards, as a function of the store and of what is handed over.
 --   replace   `opened` of calls, then `replacing`, then `stored` of calls   (20, 21, 22; 32, 33)
 --   preview   judge of the bytes that replace leaves                        (20, 21, 22; 32, 33; 10, 11)
 -- The contract of each public function is equality with its definition here; by `Leaves` of calls, for the answer and the lent bytes.
@@ -51,7 +51,7 @@ replacing n ms d =
       | false ↦ refused (refusal NotBound 0)
     ]
 
--- "Replace answers counts as No. 1 does"; "the store is unaltered" where it is refused
+-- Replace answers counts as infer does; "the store is unaltered" where it is refused
 unfoldable pub replace : Bytes → ℕ → Bool → Bytes → Outcome LoadAnswer
 replace store n unit rows = stored store (and_then (opened store) (replacing n (members_of unit rows)))
 

@@ -1,4 +1,4 @@
--- "A run on the workbench" (document 02, No. 3): the run calls, each as the answer and what is left of the lent run memory and thread records.
+-- A watched run: the run calls, each as the answer and what is left of the lent run memory and thread records.
 --   begin   `store_opened`, then nothing but thread 0 is in use             (20, 21, 22 of the store)
 --   move    `run_opened`, then Machine.changes of machine for one thread    (20, 21, 22; 30, 31)
 --   meet    the same for a sending and a receiving one

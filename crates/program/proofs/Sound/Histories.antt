@@ -158,7 +158,7 @@ claims_hold p flow comm well keeps word n c chan holds ss maker =
     rw r.same at (instance_fits p well flow r.traced r.traces n c chan maker (CanShare p)
     (λ x y a b. shares a.0 b.0 a.1 b.1) (λ x y a b. shares a.0 b.0 a.1 b.1) word holds)
 
--- Request No. 4: a history fits one-sync exactly if it "holds at most one path at sends and at most one at receives"
+-- A history fits one-sync exactly if it "holds at most one path at sends and at most one at receives"
 pub one_sync_iff : (p : Program) (pool : Pool) (i : Instance) → HistoryFits p pool i OneSync ↔ (AtMostOne (AtSend p pool i) × AtMostOne (AtReceive p pool i))
 unfolding HistoryFits Fits
 one_sync_iff p pool i = (λ (h, k). (λ x y. h x y tt, λ x y. k x y tt), λ (h, k). (λ x y _. h x y, λ x y _. k x y))
