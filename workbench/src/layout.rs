@@ -1,4 +1,4 @@
-//! The store's layout, written from docs/DECISIONS.md (document 01 leaves it
+//! The store's layout, written from docs/DECISIONS.md (the specification leaves it
 //! open): 160 rows of 8 bytes (kind, name, rest, five arguments), for each name
 //! a flag for unit and for each row, the same for each channel row, and for
 //! each row a byte with the code of its claim's word.
@@ -40,7 +40,7 @@ pub const LONGEST_TEXT: usize = HEADER.len()
 const NO_ROW: u8 = 0;
 const RESULT: u8 = 1;
 
-/// The forms' codes follow the order of document 01.
+/// The forms' codes follow the order of docs/FORMAT.md.
 const FORM_WORDS: [&str; 14] = [
     "unit", "chan", "send", "recv", "pair", "left", "right", "fun", "spawn", "sync", "first",
     "second", "case", "apply",

@@ -1,7 +1,7 @@
 //! Runs on lent memory: beginning, a move and a meeting on any bytes and thread
 //! records, with the answer and what is left of both.
 //!
-//! Written from document 02, No. 3, and from the run memory's layout, which it
+//! Written from what a watched run is and from the run memory's layout, which it
 //! leaves open. Where the memory is as beginning and moves left it, the
 //! reference's pools say the same in another way; this says it of any memory.
 

@@ -1,7 +1,7 @@
 //! Programs that tests and benchmarks share, each a file of `samples/`, whose README
 //! says what every file there shows.
 
-/// Standard input A of document 01.
+/// Example A.
 pub const A: &str = include_str!("../../examples/a.txt");
 /// "Parent sends, then spawns a child that sends."
 pub const PARENT_THEN_CHILD: &str = include_str!("../samples/parent_then_child.txt");

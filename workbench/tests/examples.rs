@@ -1,5 +1,5 @@
-//! Every example of document 01, the marked and the unmarked ones, the slips it
-//! names, and one-sync of document 02: by the reference, and by the proved
+//! Every example of the specification, the marked and the unmarked ones, the slips it
+//! names, and one-sync: by the reference, and by the proved
 //! library.
 
 use workbench::checker::{Counts, Reason, Refusal, Store};

@@ -1,4 +1,4 @@
-//! The smallest tables: what No. 1 of document 02 says of them, tried on the
+//! The smallest tables: what is said of them, tried on the
 //! proved library; and the reference's way to them against the generator's,
 //! rounds over the rows.
 

@@ -1,4 +1,4 @@
-//! Replace and preview, No. 5 of document 02, tried on the proved library: what
+//! Replace and preview, tried on the proved library: what
 //! each refusal is given for and in which order, what an accepted call leaves, and
 //! that preview answers what judge then does.
 

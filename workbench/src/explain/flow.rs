@@ -54,7 +54,7 @@ fn one(row: usize) -> Set {
     }
 }
 
-/// All that the flow rule of a row asks, in the order of document 01.
+/// All that the flow rule of a row asks, in the order of the specification.
 pub fn demands(document: &Document, row: usize) -> Vec<Demand> {
     let Some(bind) = document.bind(row) else {
         return vec![];

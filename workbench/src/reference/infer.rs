@@ -1,11 +1,11 @@
 //! The smallest tables of a program.
 //!
-//! Renders No. 1 of document 02: "Given a loaded store, the checker shall put in
+//! Renders infer: "Given a loaded store, the checker shall put in
 //! its own flow and comm sets, whatever was there before. They keep every flow
 //! rule, and each set lies inside the same set of any other tables that do. Rows
 //! and claims keep their bytes."
 //!
-//! A member is put into a set only if a flow rule of document 01 asks for it,
+//! A member is put into a set only if a flow rule of the specification asks for it,
 //! given what the sets hold already; so any tables that keep the rules have it
 //! too. Members yet to be put in stand in a list. When one is put in, whoever
 //! must hear of it is told: the sets that its set must lie in, and the rules that

@@ -1,4 +1,4 @@
-//! The reference: document 01, and the landed requests of document 02, rendered
+//! The reference: the specification, and the requests that are there, rendered
 //! sentence by sentence, clear before fast.
 //!
 //! It works on documents (lists of rows, sets and claims), not on a byte store.

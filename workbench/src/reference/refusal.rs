@@ -1,7 +1,7 @@
 //! Refusals: "Answer: number and line, lines from 1."
 //!
 //! The numbers are those of "Turned back because of the input" (1 to 11), of
-//! "Turned back because of the state" 24, and of No. 5 of document 02 both. The
+//! "Turned back because of the state" 24, and of replace and preview both. The
 //! other state numbers speak of lent memory, which documents do not have.
 
 /// Why an input is turned back, and at which line.

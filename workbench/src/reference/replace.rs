@@ -1,10 +1,10 @@
 //! A given set in place of a name's own.
 //!
-//! Renders No. 5 of document 02: "replace the set of a bound name with a given one
+//! Renders replace and preview: "replace the set of a bound name with a given one
 //! (empty allowed), handed over as a yes or no for `u` and a list of row numbers,
 //! and a preview, which answers what judge would answer on a copy so replaced",
 //! and its refusals: "32: the name isn't bound; then 33: the set isn't rising or
-//! holds what a set may not". What a set may hold is said in document 01: "Sets
+//! holds what a set may not". What a set may hold is said in the specification: "Sets
 //! hold `u` and value rows only".
 
 use super::check::judge;

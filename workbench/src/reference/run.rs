@@ -1,6 +1,6 @@
 //! Runs: pools of paths, steps, and the histories of instances.
 //!
-//! Renders "Run rules (001, section 3)" rule by rule, and of No. 4 of document 02
+//! Renders the run rules rule by rule, and of one-sync
 //! "a history holds at most one path at sends and at most one at receives".
 
 use std::collections::BTreeMap;

@@ -3,7 +3,7 @@
 //! Renders from "Walks and claims": "A send place of channel row c is a sync
 //! row with a send row in V(E) whose C has c in its set; receive places alike"
 //! and the meaning of the claim words "over pairs that can share a run". Renders
-//! No. 4 of document 02: "The claim word `one-sync` holds if one-shot does and,
+//! One-sync: "The claim word `one-sync` holds if one-shot does and,
 //! over pairs of walks that can share a run, two walks ending at receive places
 //! are the same walk."
 //!
