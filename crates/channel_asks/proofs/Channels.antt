@@ -45,7 +45,7 @@ module _ (n : ℕ) (s : Bytes) where
     chan_other h = chan_at_lem p k refl b ∙ rw (chan_none n s k l h)
 
   module _ (list : Bytes) (h : Lists n (of_kind s chan_kind) list) (from : Set) (f : ℕ → Bool) where
-    pub each_passes : ((j : ℕ) → j < byte_at list 0 → So (from (row (byte_at list (j + 1)))) → So (f (byte_at list (j + 1)))) → So (for_each_chan p from f)
+    pub each_passes : ((j : ℕ) → j < length list → So (from (row (byte_at list j))) → So (f (byte_at list j))) → So (for_each_chan p from f)
     unfolding for_each_chan for_each
     each_passes t = all_intro (length p) _ λ r l. go r (rw (program_length n s) at l) (of_kind s chan_kind r) refl
       where
@@ -55,7 +55,7 @@ module _ (n : ℕ) (s : Bytes) where
             rw (chan_here r l (f r) e) (implies_intro (from (row r)) (rw q at (t j k)))
         go r l false e = rw (chan_other r l (f r) e) (implies_true (from (row r)))
 
-    pub one_fails : (j : ℕ) {k : ℕ} → j < byte_at list 0 → k ≡ byte_at list (j + 1) → from (row k) ≡ true → f k ≡ false → for_each_chan p from f ≡ false
+    pub one_fails : (j : ℕ) {k : ℕ} → j < length list → k ≡ byte_at list j → from (row k) ≡ true → f k ≡ false → for_each_chan p from f ≡ false
     unfolding for_each_chan for_each
     one_fails j {k} l e t z =
         let (low, is) = h.rows j l in
@@ -66,7 +66,7 @@ module _ (n : ℕ) (s : Bytes) where
 -- the same of the first i channels of a list
 pub record Holding (list s : Bytes) (i : ℕ) (all : Bytes) : Type 0 where
   pub size : length all ≡ member_limit
-  pub each : (j : ℕ) → j < i → (a : Abstract) → member a < member_limit → So (set_of all a) → So (store_comm s (byte_at list (j + 1)) a)
+  pub each : (j : ℕ) → j < i → (a : Abstract) → member a < member_limit → So (set_of all a) → So (store_comm s (byte_at list j) a)
 
 pub holding_none : (list s : Bytes) → Holding list s 0 (replicate member_limit 1)
 holding_none list s = record { size = length-replicate {A = ℕ} member_limit 1; each = λ j l. absurd (omega arith) }
@@ -79,7 +79,7 @@ met all other all' l m h a k t =
     let w = h.done (member a) k in
     (rw (set_full all l) (lt-ltb 0 (byte_at all (member a)) (omega (arith, v, w))), rw (set_full other m) (lt-ltb 0 (byte_at other (member a)) (omega (arith, v, w))))
 
-pub holding_more : {list s : Bytes} {i : ℕ} {all all' other : Bytes} {k : ℕ} → k ≡ byte_at list (i + 1) → set_of other ≡ store_comm s k → member_limit ≤ length other → Holding list s i all
+pub holding_more : {list s : Bytes} {i : ℕ} {all all' other : Bytes} {k : ℕ} → k ≡ byte_at list i → set_of other ≡ store_comm s k → member_limit ≤ length other → Holding list s i all
     → Bytewise min member_limit other all all' → Holding list s (i + 1) all'
 holding_more {list} {s} {i} {all} {all'} {other} {k} e q l h b =
     record {
@@ -92,7 +92,7 @@ holding_more {list} {s} {i} {all} {all'} {other} {k} e q l h b =
           ];
     }
 
-pub holding_all : (n : ℕ) {list s all : Bytes} {i : ℕ} → i ≡ byte_at list 0 → Lists n (of_kind s chan_kind) list → Holding list s i all → AllHold n s all
+pub holding_all : (n : ℕ) {list s all : Bytes} {i : ℕ} → i ≡ length list → Lists n (of_kind s chan_kind) list → Holding list s i all → AllHold n s all
 holding_all n {list} {s} e h k =
     record {
       size = omega (arith, k.size);
@@ -114,8 +114,8 @@ pub sure : (n : ℕ) (s list : Bytes) {all : Bytes} (from t : Set) → n ≤ row
 sure n s list {all} from t few h g e =
     each_passes n s list h from _ λ j l i.
     let (low, is) = h.rows j l in
-    rw (← (lies_at n s t (store_comm s (byte_at list (j + 1)))))
-    ((lies_below_iff n _ _).1 λ a m x. g.each (byte_at list (j + 1)) low is a (omega arith) ((lies_below_iff n t (set_of all)).0 e a m x))
+    rw (← (lies_at n s t (store_comm s (byte_at list j))))
+    ((lies_below_iff n _ _).1 λ a m x. g.each (byte_at list j) low is a (omega arith) ((lies_below_iff n t (set_of all)).0 e a m x))
 
 -- a row of another kind than send passes a sync
 pub send_other : (n : ℕ) (s : Bytes) (given : Bool) (k : ℕ) → k < n → of_kind s 4 k ≡ false → send_test (store_program n s) (store_flow s) (store_comm s) given k ≡ true
@@ -142,7 +142,7 @@ fails_none list f few =
     ones_at : (k i : ℕ) → i < k → byte_at (replicate k 1) i ≡ 1
     ones_at k i l = get_or-replicate k i 1 0 l
 
-pub fails_more : {n : ℕ} (list : Bytes) (i v : ℕ) {f : ℕ → Bool} {marks : Bytes} {r : ℕ} → r ≡ byte_at list (i + 1) → r < row_limit → ltb 0 v ≡ f r → Fails n list i f marks
+pub fails_more : {n : ℕ} (list : Bytes) (i v : ℕ) {f : ℕ → Bool} {marks : Bytes} {r : ℕ} → r ≡ byte_at list i → r < row_limit → ltb 0 v ≡ f r → Fails n list i f marks
     → Fails n list (i + 1) f (set marks (r + 1) v)
 fails_more list i v {f} {marks} {r} e l t h =
     record {
@@ -158,7 +158,7 @@ fails_more list i v {f} {marks} {r} e l t h =
       ];
     }
 
-pub fails_all : (n : ℕ) {list marks : Bytes} {i : ℕ} {kind f : ℕ → Bool} → i ≡ byte_at list 0 → Lists n kind list → ((q : ℕ) → q < n → kind q ≡ false → f q ≡ true) → Fails n list i f marks
+pub fails_all : (n : ℕ) {list marks : Bytes} {i : ℕ} {kind f : ℕ → Bool} → i ≡ length list → Lists n kind list → ((q : ℕ) → q < n → kind q ≡ false → f q ≡ true) → Fails n list i f marks
     → PassingSet n f marks
 fails_all n {list} {marks} {i} {kind} {f} e h other k =
     record {

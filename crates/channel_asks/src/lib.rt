@@ -10,7 +10,6 @@ ghost use Rattle.row_lists.specs.Lists.{Lists, of_kind, chan_kind, send_kind};
 ghost use Rattle.sets.specs.Sets.{Sized, Bytewise, set_of};
 ghost use Rattle.channel_asks.specs.Channels.{send_test, Sends, AllHold};
 
-use byte_order::smaller;
 use forms::form_at;
 use members::has_row;
 use program::Form;
@@ -22,11 +21,8 @@ fn meet(set: &mut [u8], other: &[u8])
     requires { (member_limit ≤ length set.old) × (member_limit ≤ length other.now) }
     ensures { Bytewise min member_limit other.now set.old set.new }
 {
-    let mut i = 0;
-    while i < Store::MEMBERS {
-        let own = set[i];
-        set[i] = smaller(own, other[i]);
-        i += 1;
+    for i in 0..Store::MEMBERS {
+        set[i] = set[i].min(other[i]);
     }
 }
 
@@ -37,12 +33,8 @@ fn held_by_all(store: &[u8], rows: u8, chans: &[u8]) -> [u8; Store::MEMBERS]
     requires lists { Lists rows (of_kind store.now chan_kind) chans.now }
     ensures { AllHold rows store.now result }
 {
-    let many = read_text::byte_at(chans, 0);
     let mut all = [1u8; Store::MEMBERS];
-    let mut i = 0;
-    while i < many {
-        i += 1;
-        let k = read_text::byte_at(chans, i as usize);
+    for &k in chans {
         let set = comm_set(store, k);
         if set.len() < Store::MEMBERS {
             return [0u8; Store::MEMBERS];
@@ -57,10 +49,7 @@ fn chan_holds(store: &[u8], rows: u8, given: bool, set: &[u8], k: u8) -> bool
     requires { Sized rows store.now }
     ensures { let bytes = store.now in result ≡ given && lies (store_program rows bytes) (set_of set.now) (store_comm bytes k) }
 {
-    if given {
-        return lies_in_comm(store, rows, set, k);
-    }
-    false
+    given && lies_in_comm(store, rows, set, k)
 }
 
 // Whether each channel in a set is so, by the list of the chan rows.
@@ -70,15 +59,8 @@ fn chans_hold(store: &[u8], rows: u8, chans: &[u8], given: bool, from: &[u8], se
     requires lists { Lists rows (of_kind store.now chan_kind) chans.now }
     ensures { let bytes = store.now in result ≡ for_each_chan (store_program rows bytes) (set_of from.now) λ k. given && lies (store_program rows bytes) (set_of set.now) (store_comm bytes k) }
 {
-    let many = read_text::byte_at(chans, 0);
-    let mut i = 0;
-    while i < many {
-        i += 1;
-        let k = read_text::byte_at(chans, i as usize);
-        if has_row(from, k) {
-            if chan_holds(store, rows, given, set, k) {
-                continue;
-            }
+    for &k in chans {
+        if has_row(from, k) && !chan_holds(store, rows, given, set, k) {
             return false;
         }
     }
@@ -96,10 +78,8 @@ fn send_passes(store: &[u8], rows: u8, chans: &[u8], all: &[u8], given: bool, s:
         return true;
     };
     let set = flow_set(store, message);
-    if given {
-        if lies_in(set, all, rows) {
-            return true;
-        }
+    if given && lies_in(set, all, rows) {
+        return true;
     }
     let from = flow_set(store, channel);
     chans_hold(store, rows, chans, given, from, set)
@@ -118,19 +98,13 @@ pub fn passing_sends(
     requires lists_2 { Lists rows (of_kind store.now send_kind) sends.now }
     ensures { Sends rows store.now given result }
 {
-    let many = read_text::byte_at(sends, 0);
     let mut marks = [1u8; Store::MEMBERS];
-    if many == 0 {
+    if sends.is_empty() {
         return marks;
     }
     let all = held_by_all(store, rows, chans);
-    let mut i = 0;
-    while i < many {
-        i += 1;
-        let s = read_text::byte_at(sends, i as usize);
-        let pass = send_passes(store, rows, chans, &all, given, s) as u8;
-        let j = s as usize + 1;
-        marks[j] = pass;
+    for &s in sends {
+        marks[s as usize + 1] = send_passes(store, rows, chans, &all, given, s) as u8;
     }
     marks
 }

@@ -56,20 +56,20 @@ kind_of_event n s side c q l h = go (of_kind s (kind_on side) q) refl
 
 module _ (s : Bytes) (at : ℕ) (list : Bytes) where
   abbrev one_of : ℕ → Bool
-  one_of i = any i λ j. on s (at + byte_at list (j + 1))
+  one_of i = any i λ j. on s (at + byte_at list j)
 
-  module _ (i : ℕ) (r x : ℕ) (e : r ≡ byte_at list (i + 1)) (d : x ≡ byte_at s (at + r)) where
+  module _ (i x : ℕ) (d : x ≡ byte_at s (at + byte_at list i)) where
     pub one_more : x ≤ 0 → one_of i ≡ false → one_of (i + 1) ≡ false
     unfolding any on
     one_more z h =
-        let q : byte_at s (at + byte_at list (i + 1)) ≡ 0 = rw (← e) (omega arith) in
+        let q : byte_at s (at + byte_at list i) ≡ 0 = omega (arith, d, z) in
         rw (add-one i, q) h
 
-    pub one_here : i < byte_at list 0 → 0 < x → true ≡ one_in s at list
+    pub one_here : i < length list → 0 < x → true ≡ one_in s at list
     unfolding one_in on
-    one_here l h = sym (any_intro (λ j. on s (at + byte_at list (j + 1))) i l (rw (← e, ← d) (lt-ltb 0 x h)))
+    one_here l h = sym (any_intro (λ j. on s (at + byte_at list j)) i l (rw (← d) (lt-ltb 0 x h)))
 
-  pub one_end : (i : ℕ) → i ≡ byte_at list 0 → one_of i ≡ false → false ≡ one_in s at list
+  pub one_end : (i : ℕ) → i ≡ length list → one_of i ≡ false → false ≡ one_in s at list
   unfolding one_in
   one_end i e h = sym (rw e at h)
 
@@ -120,7 +120,7 @@ pub of_none : {n : ℕ} (list : Bytes) (f : ℕ → Bool) → MarkedOf n list 0 
 unfolding any on
 of_none list f = record { size = length-replicate {A = ℕ} row_limit 0; rows = λ q l. rw (zeros_at row_limit q) }
 
-pub of_more : {n : ℕ} (list : Bytes) (i v : ℕ) {f : ℕ → Bool} {marks : Bytes} {r : ℕ} → r ≡ byte_at list (i + 1) → r < row_limit → ltb 0 v ≡ f r → MarkedOf n list i f marks
+pub of_more : {n : ℕ} (list : Bytes) (i v : ℕ) {f : ℕ → Bool} {marks : Bytes} {r : ℕ} → r ≡ byte_at list i → r < row_limit → ltb 0 v ≡ f r → MarkedOf n list i f marks
     → MarkedOf n list (i + 1) f (set marks r v)
 unfolding on
 of_more list i v {f} {marks} {r} e l t h =
@@ -133,7 +133,7 @@ of_more list i v {f} {marks} {r} e l t h =
     }
 
 -- all syncs were looked at
-pub of_all : (n : ℕ) (s : Bytes) (side : Side) (c : ℕ) {syncs marks : Bytes} {i : ℕ} → i ≡ byte_at syncs 0 → Lists n (of_kind s 11) syncs
+pub of_all : (n : ℕ) (s : Bytes) (side : Side) (c : ℕ) {syncs marks : Bytes} {i : ℕ} → i ≡ length syncs → Lists n (of_kind s 11) syncs
     → MarkedOf n syncs i (place (store_program n s) (store_flow s) side c) marks → Marked n (place (store_program n s) (store_flow s) side c) marks
 of_all n s side c {syncs} {marks} {i} e h k =
     record {

@@ -1,5 +1,5 @@
 -- The places of a channel on one side.
-use Rattle.std.specs.Prelude.{ℕ, ◌+◌, Bool}
+use Rattle.std.specs.Prelude.{ℕ, ◌+◌, Bool, length}
 use Rattle.program.specs.Test.{any}
 use Rattle.program.specs.Maybe.{has}
 use Rattle.program.specs.Program.{Program, send_at, recv_at}
@@ -28,4 +28,4 @@ module _ (p : Program) (flow : Table) where
 
 -- one of the rows in a list is in the set whose rows begin at a position of a store
 unfoldable pub one_in : Bytes → ℕ → Bytes → Bool
-one_in s at list = any (byte_at list 0) λ i. on s (at + byte_at list (i + 1))
+one_in s at list = any (length list) λ i. on s (at + byte_at list i)

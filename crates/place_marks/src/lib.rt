@@ -13,71 +13,40 @@ ghost use Rattle.place_marks.specs.Places.{kind_on, event_on, one_in, place};
 
 use forms::form_at;
 use program::Form;
+use row_lists::RowList;
 use store::Store;
 use tables::flow_has;
 
 // The two ends of a channel.
-#[derive(Clone, Copy)]
+#[derive(Clone, Copy, PartialEq, Eq)]
 pub enum Side {
     Sends,
     Receives,
-}
-
-// Whether row s is a send whose channel has row c in its set.
-fn sends_on(store: &[u8], rows: u8, c: u8, s: u8) -> bool
-    ensures { let bytes = store.now in result ≡ event_on (store_program rows bytes) (store_flow bytes) Side.Sends c s }
-{
-    let Form::Send {
-        channel,
-        message: _,
-    } = form_at(store, rows, s)
-    else {
-        return false;
-    };
-    flow_has(store, channel, c)
-}
-
-// Whether row s is a recv whose channel has row c in its set.
-fn receives_on(store: &[u8], rows: u8, c: u8, s: u8) -> bool
-    ensures { let bytes = store.now in result ≡ event_on (store_program rows bytes) (store_flow bytes) Side.Receives c s }
-{
-    let Form::Recv { channel } = form_at(store, rows, s) else {
-        return false;
-    };
-    flow_has(store, channel, c)
 }
 
 // Whether row s is a send or a recv, by the side, whose channel has row c in its set.
 fn event_on(store: &[u8], rows: u8, side: Side, c: u8, s: u8) -> bool
     ensures { let bytes = store.now in result ≡ event_on (store_program rows bytes) (store_flow bytes) side c s }
 {
-    match side {
-        Side::Sends => sends_on(store, rows, c, s),
-        Side::Receives => receives_on(store, rows, c, s),
+    match (side, form_at(store, rows, s)) {
+        (Side::Sends, Form::Send { channel, .. }) => flow_has(store, channel, c),
+        (Side::Receives, Form::Recv { channel }) => flow_has(store, channel, c),
+        _ => false,
     }
 }
 
 // The rows of a list of sends or recvs, by the side, of which that holds, as a list.
-fn events(store: &[u8], rows: u8, side: Side, list: &[u8], c: u8) -> [u8; Store::MEMBERS]
+fn events(store: &[u8], rows: u8, side: Side, list: &[u8], c: u8) -> RowList
     requires rows_le_row_limit { rows ≤ row_limit }
     requires lists { Lists rows (of_kind store.now (kind_on side)) list.now }
     ensures { let bytes = store.now in Lists rows (event_on (store_program rows bytes) (store_flow bytes) side c) result }
 {
-    let many = read_text::byte_at(list, 0);
-    let mut on = [0u8; Store::MEMBERS];
-    let mut count = 0;
-    let mut i = 0;
-    while i < many {
-        i += 1;
-        let s = read_text::byte_at(list, i as usize);
+    let mut on = RowList::new();
+    for &s in list {
         if event_on(store, rows, side, c, s) {
-            count += 1;
-            let j = count as usize;
-            on[j] = s;
-            continue;
+            on.push(s);
         }
     }
-    on[0] = count;
     on
 }
 
@@ -86,11 +55,7 @@ fn has_event(store: &[u8], at: usize, events: &[u8]) -> bool
     requires { at ≤ store_size }
     ensures { result ≡ one_in store.now at events.now }
 {
-    let many = read_text::byte_at(events, 0);
-    let mut i = 0;
-    while i < many {
-        i += 1;
-        let s = read_text::byte_at(events, i as usize);
+    for &s in events {
         if 0 < read_text::byte_at(store, at + s as usize) {
             return true;
         }
@@ -129,15 +94,9 @@ pub fn places(
     ensures { let bytes = store.now in Marked rows (place (store_program rows bytes) (store_flow bytes) side c) result }
 {
     let on = events(store, rows, side, list, c);
-    let many = read_text::byte_at(syncs, 0);
     let mut marks = [0u8; Store::ROWS];
-    let mut i = 0;
-    while i < many {
-        i += 1;
-        let r = read_text::byte_at(syncs, i as usize);
-        let mark = is_place(store, rows, &on, r) as u8;
-        let j = r as usize;
-        marks[j] = mark;
+    for &r in syncs {
+        marks[r as usize] = is_place(store, rows, on.rows(), r) as u8;
     }
     marks
 }

@@ -2,9 +2,9 @@
 use Prim.Native.Nat.{ℕ, ◌+◌, ◌*◌, ◌<◌}
 use native.Mathlib.Omega.{arith}
 use mathlib.Core.Bool.{Bool, true, false, ◌&&◌, So, false≢true}
-use Rattle.std.specs.Prelude.{Option, None as none}
+use Rattle.std.specs.Prelude.{None as none}
 use mathlib.Core.Path.{◌≡◌, refl, sym, ◌∙◌}
-use lib.ListN.{length, set}
+use mathlib.Core.List.{[], ◌∷◌, ◌++◌}
 use lib.Dec.{ltb, eqb}
 use borrow.Author.Tests.{lt-ltb, le-ltb, ltb-true, eq-eqb, eqb-true}
 use Rattle.program.specs.declared.Row.{Row}
@@ -40,16 +40,15 @@ module _ (s : Bytes) (kind : ℕ) where
   falls n r h d = let l : r < n + 1 = ltb-true r (n + 1) (and_left (ltb r (n + 1)) _ h) in and_intro (lt-ltb r n (omega arith)) (and_right (ltb r (n + 1)) _ h)
 
   -- row n is of another kind
-  pub kind_other : (n count : ℕ) {list : Bytes} {x : ℕ} → x ≡ byte_at s (n * row_size) → (x ≡ kind → ⊥) → Has count (below n) list → Has count (below (n + 1)) list
+  pub kind_other : (n : ℕ) {list : Bytes} {x : ℕ} → x ≡ byte_at s (n * row_size) → (x ≡ kind → ⊥) → Has (below n) list → Has (below (n + 1)) list
   unfolding of_kind
-  kind_other n count {x = x} e d h =
+  kind_other n {x = x} e d h =
       has_as (rises n) (λ r t. falls n r t (λ q. d (e ∙ eqb-true _ kind (rw q at (and_right (ltb r (n + 1)) _ t))))) h
 
   -- row n is of the kind
-  pub kind_here : (n count : ℕ) {list : Bytes} {x : ℕ} → count + 1 < length list → x ≡ byte_at s (n * row_size) → x ≡ kind → Has count (below n) list
-      → Has (count + 1) (below (n + 1)) (set list (count + 1) n)
+  pub kind_here : (n : ℕ) {list : Bytes} {x : ℕ} → x ≡ byte_at s (n * row_size) → x ≡ kind → Has (below n) list → Has (below (n + 1)) (list ++ n ∷ [])
   unfolding of_kind
-  kind_here n count l e k h = has_more count n l (and_intro (lt-ltb n (n + 1) (omega arith)) (eq-eqb _ kind (sym e ∙ k))) (rises n) (falls n) h
+  kind_here n e k h = has_more n (and_intro (lt-ltb n (n + 1) (omega arith)) (eq-eqb _ kind (sym e ∙ k))) (rises n) (falls n) h
 
 -- ---- rows of other kinds
 

@@ -1,2 +1,3 @@
--- Lists of rows as bytes.
+-- Lists of rows.
 pub mod Lists
+pub mod Kinds

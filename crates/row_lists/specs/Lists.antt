@@ -1,21 +1,20 @@
--- Lists of rows as bytes: first how many there are, then the rows.
-use Rattle.std.specs.Prelude.{ℕ, ◌+◌, ◌*◌, ◌<◌, ◌≤◌, Bool, ◌≡◌, length, eqb}
+-- Lists of rows.
+use Rattle.std.specs.Prelude.{ℕ, ◌*◌, ◌<◌, ◌≤◌, Bool, ◌≡◌, length, eqb}
 use Rattle.std.proofs.Math.Bool.{So}
 use Rattle.format.specs.Limits.{row_limit}
 use Rattle.format.specs.Text.{Bytes, byte_at}
-use Rattle.calls.specs.Layout.{row_size, member_limit}
+use Rattle.calls.specs.Layout.{row_size}
 
--- the first `count` rows behind the count are those of which the test holds
-pub record Has (count : ℕ) (f : ℕ → Bool) (list : Bytes) : Type 0 where
-  pub rows : (i : ℕ) → i < count → So (f (byte_at list (i + 1)))
-  pub all : (r : ℕ) → So (f r) → (i : ℕ) × (i < count) × (byte_at list (i + 1) ≡ r)
+-- the list has those rows of which the test holds
+pub record Has (f : ℕ → Bool) (list : Bytes) : Type 0 where
+  pub rows : (i : ℕ) → i < length list → So (f (byte_at list i))
+  pub all : (r : ℕ) → So (f r) → (i : ℕ) × (i < length list) × (byte_at list i ≡ r)
 
 -- the list has, of the first n rows, those of which the test holds
 pub record Lists (n : ℕ) (f : ℕ → Bool) (list : Bytes) : Type 0 where
-  pub size : member_limit ≤ length list
-  pub few : byte_at list 0 ≤ row_limit
-  pub rows : (i : ℕ) → i < byte_at list 0 → (byte_at list (i + 1) < n) × So (f (byte_at list (i + 1)))
-  pub all : (r : ℕ) → r < n → So (f r) → (i : ℕ) × (i < byte_at list 0) × (byte_at list (i + 1) ≡ r)
+  pub few : length list ≤ row_limit
+  pub rows : (i : ℕ) → i < length list → (byte_at list i < n) × So (f (byte_at list i))
+  pub all : (r : ℕ) → r < n → So (f r) → (i : ℕ) × (i < length list) × (byte_at list i ≡ r)
 
 -- row r has this kind in a store
 unfoldable pub of_kind : Bytes → ℕ → ℕ → Bool

@@ -5,7 +5,6 @@ ghost use Rattle.std.specs.Prelude.{true, ◌≡◌, ◌≤◌, length};
 ghost use Rattle.format.specs.Limits.{row_limit};
 ghost use Rattle.row_marks.specs.RowMarks.{three_meet, NoneMarked};
 
-use byte_order::{larger, smaller};
 use store::Store;
 
 // Whether one of the first n rows is in all three sets. Every row is looked at, so that the loop has no way out but its end.
@@ -14,12 +13,10 @@ pub fn three_meet(a: &[u8], b: &[u8], c: &[u8], n: usize) -> bool
     ensures { result ≡ three_meet n a.now b.now c.now }
 {
     let mut found = 0;
-    let mut i = 0;
-    while i < n {
-        let x = smaller(b[i], c[i]);
-        let y = smaller(a[i], x);
-        found = larger(found, y);
-        i += 1;
+    for i in 0..n {
+        let x = b[i].min(c[i]);
+        let y = a[i].min(x);
+        found = found.max(y);
     }
     0 < found
 }
@@ -30,10 +27,8 @@ pub fn none_marked(marks: &[u8]) -> bool
     ensures { result ≡ true → NoneMarked marks.now }
 {
     let mut found = 0;
-    let mut i = 0;
-    while i < Store::ROWS {
-        found = larger(found, marks[i]);
-        i += 1;
+    for r in 0..Store::ROWS {
+        found = found.max(marks[r]);
     }
     found == 0
 }

@@ -27,14 +27,14 @@ use Rattle.walks.specs.Walks.{comes_to, JoinsMarks, forks_on, rivals_on}
 
 module _ (list : Bytes) (f : ℕ → Bool) where
   abbrev pub one_of : ℕ → Bool
-  one_of i = any i λ j. f (byte_at list (j + 1))
+  one_of i = any i λ j. f (byte_at list j)
 
-  pub none_more : (i : ℕ) {r : ℕ} → r ≡ byte_at list (i + 1) → f r ≡ false → one_of i ≡ false → one_of (i + 1) ≡ false
+  pub none_more : (i : ℕ) → f (byte_at list i) ≡ false → one_of i ≡ false → one_of (i + 1) ≡ false
   unfolding any
-  none_more i e z h = rw (add-one i, ← e, z) h
+  none_more i z h = rw (add-one i, z) h
 
-  pub one_found : (i : ℕ) {r : ℕ} → r ≡ byte_at list (i + 1) → i < byte_at list 0 → f r ≡ true → one_of (byte_at list 0) ≡ true
-  one_found i e l t = any_intro (λ j. f (byte_at list (j + 1))) i l (rw (← e) t)
+  pub one_found : (i : ℕ) → i < length list → f (byte_at list i) ≡ true → one_of (length list) ≡ true
+  one_found i l t = any_intro (λ j. f (byte_at list j)) i l t
 
 -- ---- spawns
 
@@ -43,7 +43,7 @@ module _ (n : ℕ) (s : Bytes) (reached places ahead : Bytes) where
   parts q = on reached q && forks_on n (store_program n s) places ahead q
 
   -- walks part at spawns alone
-  pub spawns_tell : (spawns : Bytes) → Lists n (of_kind s 10) spawns → one_of spawns parts (byte_at spawns 0) ≡ rivals_on n (store_program n s) reached places ahead
+  pub spawns_tell : (spawns : Bytes) → Lists n (of_kind s 10) spawns → one_of spawns parts (length spawns) ≡ rivals_on n (store_program n s) reached places ahead
   unfolding rivals_on forks_on has
   spawns_tell spawns h = any_listed spawns h parts ∙ any_same n _ _ (λ q l. go q l (of_kind s 10 q) refl)
     where

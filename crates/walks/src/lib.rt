@@ -9,7 +9,6 @@ ghost use Rattle.row_lists.specs.Lists.{Lists, of_kind, spawn_kind};
 ghost use Rattle.row_marks.specs.RowMarks.{Marked};
 ghost use Rattle.walks.specs.Walks.{comes_to, JoinsMarks, ahead_of, leads_on, forks_on, rivals_on};
 
-use byte_order::larger;
 use forms::row_in;
 use program::{Form, Row};
 use store::Store;
@@ -21,10 +20,8 @@ pub fn reached_rows(grid: &[u8], rows: u8) -> [u8; Store::ROWS]
     ensures { Marked rows (comes_to grid.now) result }
 {
     let mut marks = [0u8; Store::ROWS];
-    let mut r = 0;
-    while r < rows as usize {
+    for r in 0..rows as usize {
         marks[r] = grid[r * Store::ROWS];
-        r += 1;
     }
     marks[0] = 1;
     marks
@@ -35,12 +32,8 @@ fn join_marks(marks: &mut [u8], grid: &[u8], at: usize, n: usize)
     requires { (n ≤ length marks.old) × (at + n ≤ length grid.now) }
     ensures { JoinsMarks n grid.now at marks.old marks.new }
 {
-    let mut j = 0;
-    while j < n {
-        let own = marks[j];
-        let other = grid[at + j];
-        marks[j] = larger(own, other);
-        j += 1;
+    for j in 0..n {
+        marks[j] = marks[j].max(grid[at + j]);
     }
 }
 
@@ -51,15 +44,12 @@ pub fn rows_ahead(grid: &[u8], rows: u8, places: &[u8]) -> [u8; Store::ROWS]
 {
     let n = rows as usize;
     let mut marks = [0u8; Store::ROWS];
-    let mut r = 0;
-    while r < n {
+    for r in 0..n {
         if places[r] == 0 {
-            r += 1;
             continue;
         }
         let at = r * Store::ROWS;
         join_marks(&mut marks, grid, at, n);
-        r += 1;
     }
     marks
 }
@@ -69,14 +59,8 @@ pub fn rows_ahead(grid: &[u8], rows: u8, places: &[u8]) -> [u8; Store::ROWS]
 fn leads(rows: u8, places: &[u8], ahead: &[u8], r: u8) -> bool
     ensures { result ≡ leads_on rows places.now ahead.now r }
 {
-    if rows <= r {
-        return false;
-    }
     let i = r as usize;
-    if 0 < read_text::byte_at(places, i) {
-        return true;
-    }
-    0 < read_text::byte_at(ahead, i)
+    r < rows && (0 < read_text::byte_at(places, i) || 0 < read_text::byte_at(ahead, i))
 }
 
 // Whether row q is a spawn row whose spawned row and whose rest both lead to places.
@@ -86,15 +70,10 @@ fn forks(store: &[u8], rows: u8, places: &[u8], ahead: &[u8], q: u8) -> bool
     let Row::Bind(b) = row_in(store, rows, q) else {
         return false;
     };
-    let rest = b.rest;
-    let form = b.form;
-    let Form::Spawn { child } = form else {
+    let Form::Spawn { child } = b.form else {
         return false;
     };
-    if leads(rows, places, ahead, child) {
-        return leads(rows, places, ahead, rest);
-    }
-    false
+    leads(rows, places, ahead, child) && leads(rows, places, ahead, b.rest)
 }
 
 // Whether a walk comes to such a row, by the list of the spawns.
@@ -109,11 +88,7 @@ pub fn rivals(
     requires { Lists rows (of_kind store.now spawn_kind) spawns.now }
     ensures { result ≡ rivals_on rows (store_program rows store.now) reached.now places.now ahead.now }
 {
-    let many = read_text::byte_at(spawns, 0);
-    let mut i = 0;
-    while i < many {
-        i += 1;
-        let q = read_text::byte_at(spawns, i as usize);
+    for &q in spawns {
         if read_text::byte_at(reached, q as usize) == 0 {
             continue;
         }

@@ -1,9 +1,8 @@
--- `forks` meets its contract: a row that is no spawn row is not asked further.
+-- A row that is no spawn row is not asked further.
 use mathlib.Core.Path.{sym, ◌∙◌}
 use Rattle.program.specs.Maybe.{has, ◌>>=◌}
-use Rattle.forms.proofs.Forms.{fork_end, fork_bind}
+use Rattle.forms.proofs.Forms.{fork_end, fork_bind, lacks_spawn}
 use Rattle.walks.specs.Walks.{forks_on}
-use Rattle.forms.proofs.Forms.{lacks_spawn}
 use Rattle.walks.proofs.forks.Goals as goal
 
 pub returns-in_default : goal.returns-in_default
@@ -20,8 +19,8 @@ returns-then-leads c =
     let is-bind = sym c.row_in.ensures ∙ c.in-Bind.is in
     rw (fork_bind _ _ is-bind, c.in-Spawn.is, ← c.leads.ensures, c.if-leads.true) c.leads-then-leads.ensures
 
-pub returns : goal.returns
+pub returns-else-leads : goal.returns-else-leads
 unfolding forks_on has ◌>>=◌
-returns c =
+returns-else-leads c =
     let is-bind = sym c.row_in.ensures ∙ c.in-Bind.is in
     rw (fork_bind _ _ is-bind, c.in-Spawn.is, ← c.leads.ensures, c.if-leads.false)
