@@ -1,11 +1,11 @@
 // The words of a claim: the word of its code in the store, and what a word says, by what is found at the two ends of a channel.
 #![tactic(auto)]
 
-ghost use Rattle.std.specs.Prelude.{not, ◌&&◌, ◌≡◌};
-ghost use Rattle.program.specs.Verdict.{says};
+ghost use Rattle.std.specs.Prelude.{◌≡◌};
+ghost use Rattle.program.specs.Verdict.{once, says};
 ghost use Rattle.calls.specs.Layout.{word_of};
 
-use program::{Facts, Word};
+use program::{Ends, Facts, Word};
 
 // The word of a claim's code in the store; every code but these five is that of many.
 #[tactic(auto, unfolding(calls::specs::Layout::word_of))]
@@ -22,14 +22,11 @@ pub fn word_of(code: u8) -> Word
     }
 }
 
-// Neither holds.
-fn neither(a: bool, b: bool) -> bool
-    ensures { result ≡ not a && not b }
+// Walks come to places once at most: not to one after the other, and not to two apart.
+fn once(end: Ends) -> bool
+    ensures { result ≡ once end }
 {
-    if a {
-        return false;
-    }
-    !b
+    !end.twice && !end.rivals
 }
 
 // What a word says, by what is found at the two ends of a channel.
@@ -37,19 +34,13 @@ fn neither(a: bool, b: bool) -> bool
 pub fn says(word: Word, found: Facts) -> bool
     ensures { result ≡ says word found }
 {
-    let sends = found.sends;
-    let receives = found.receives;
+    let Facts { sends, receives } = found;
     match word {
-        Word::OneShot => neither(sends.twice, sends.rivals),
-        Word::OneToOne => neither(sends.rivals, receives.rivals),
+        Word::OneShot => once(sends),
+        Word::OneToOne => !sends.rivals && !receives.rivals,
         Word::FanOut => !sends.rivals,
         Word::FanIn => !receives.rivals,
         Word::Many => true,
-        Word::OneSync => {
-            if neither(sends.twice, sends.rivals) {
-                return neither(receives.twice, receives.rivals);
-            }
-            false
-        }
+        Word::OneSync => once(sends) && once(receives),
     }
 }

@@ -19,7 +19,7 @@ use Rattle.program.specs.Walk.{send_place, receive_place}
 use Rattle.program.specs.Verdict.{reach, says, reached, in_a_row, rivals, ends, facts, verdict}
 use Rattle.program.proofs.Test.{any_same}
 use Rattle.format.specs.Limits.{row_limit}
-use Rattle.format.specs.Text.{Bytes, byte_at}
+use Rattle.format.specs.Text.{Bytes}
 use Rattle.calls.specs.Judging.{verdict_words}
 use Rattle.store.specs.Rows.{store_program}
 use Rattle.store.proofs.Laws.{program_length}
@@ -90,7 +90,7 @@ module _ (n : ℕ) (s : Bytes) (c : ℕ) {sends receives : Bytes} (few : n ≤ r
         rw (e, d, ← ends_nowhere (store_program n s) (reach (store_program n s) (store_flow s)) (reached (store_program n s) (reach (store_program n s) (store_flow s))))
 
 -- a program without syncs
-module _ (n : ℕ) (s : Bytes) {syncs : Bytes} (h : Lists n (of_kind s sync_kind) syncs) (z : byte_at syncs 0 ≡ 0) where
+module _ (n : ℕ) (s : Bytes) {syncs : Bytes} (h : Lists n (of_kind s sync_kind) syncs) (z : length syncs ≡ 0) where
   none_of : (r : ℕ) → r < n → of_kind s sync_kind r ≡ false
   none_of r l = go (of_kind s sync_kind r) refl
     where

@@ -9,7 +9,7 @@ ghost use Rattle.store.specs.Rows.{store_program};
 ghost use Rattle.tables.specs.Tables.{store_flow};
 ghost use Rattle.grids.specs.Grid.{grid_size, Shows};
 ghost use Rattle.row_lists.specs.Lists.{Lists, of_kind, spawn_kind};
-ghost use Rattle.verdicts.specs.Words.{ends_at, facts_at, word_in, facts_in, no_facts};
+ghost use Rattle.verdicts.specs.Words.{ends_at, facts_at, word_in, facts_in};
 ghost use Rattle.verdicts.specs.Ready.{Ready};
 
 use claim_words::says;
@@ -17,9 +17,20 @@ use grids::GRID;
 use place_marks::{Side, places};
 use program::{Ends, Facts, Word};
 use reach::fill_reach;
-use row_lists::{RECV, SEND, SPAWN, SYNC, rows_of_kind};
+use row_lists::Kind;
 use row_marks::{none_marked, three_meet};
 use walks::{reached_rows, rivals, rows_ahead};
+
+// What is found where there are no places: at one end, and at both.
+const NO_ENDS: Ends = Ends {
+    twice: false,
+    rivals: false,
+};
+
+const NO_FACTS: Facts = Facts {
+    sends: NO_ENDS,
+    receives: NO_ENDS,
+};
 
 // What is found of the walks that come to the marked places, where `comes` marks the rows that their shared beginnings come to, by the list
 // of the spawns.
@@ -30,29 +41,12 @@ fn ends_of(store: &[u8], rows: u8, grid: &[u8], spawns: &[u8], comes: &[u8], pla
     ensures { let bytes = store.now in result ≡ ends_at rows (store_program rows bytes) (store_flow bytes) comes.now places.now }
 {
     if none_marked(places) {
-        return Ends {
-            twice: false,
-            rivals: false,
-        };
+        return NO_ENDS;
     }
     let ahead = rows_ahead(grid, rows, places);
     Ends {
         twice: three_meet(comes, places, &ahead, rows as usize),
         rivals: rivals(store, rows, spawns, comes, places, &ahead),
-    }
-}
-
-// What is found where a channel has no places.
-fn nothing_found() -> Facts
-    ensures { result ≡ no_facts }
-{
-    let none = Ends {
-        twice: false,
-        rivals: false,
-    };
-    Facts {
-        sends: none,
-        receives: none,
     }
 }
 
@@ -72,11 +66,9 @@ fn facts(
     requires lists { Lists rows (of_kind store.now spawn_kind) spawns.now }
     ensures { let bytes = store.now in result ≡ facts_at rows (store_program rows bytes) (store_flow bytes) comes.now sends.now receives.now }
 {
-    let of_sends = ends_of(store, rows, grid, spawns, comes, sends);
-    let of_receives = ends_of(store, rows, grid, spawns, comes, receives);
     Facts {
-        sends: of_sends,
-        receives: of_receives,
+        sends: ends_of(store, rows, grid, spawns, comes, sends),
+        receives: ends_of(store, rows, grid, spawns, comes, receives),
     }
 }
 
@@ -129,12 +121,20 @@ fn own_facts(store: &[u8], rows: u8, grid: &[u8], c: u8) -> Facts
     ensures { result ≡ facts_in (store_program rows store.now) (store_flow store.now) c }
 {
     let comes = reached_rows(grid, rows);
-    let sends = rows_of_kind(store, rows, SEND);
-    let receives = rows_of_kind(store, rows, RECV);
-    let syncs = rows_of_kind(store, rows, SYNC);
-    let spawns = rows_of_kind(store, rows, SPAWN);
+    let sends = Kind::Send.listed(store, rows);
+    let receives = Kind::Recv.listed(store, rows);
+    let syncs = Kind::Sync.listed(store, rows);
+    let spawns = Kind::Spawn.listed(store, rows);
     channel_facts(
-        store, rows, grid, &comes, &sends, &receives, &syncs, &spawns, c,
+        store,
+        rows,
+        grid,
+        &comes,
+        sends.rows(),
+        receives.rows(),
+        syncs.rows(),
+        spawns.rows(),
+        c,
     )
 }
 
@@ -144,33 +144,41 @@ fn lone_facts(store: &[u8], rows: u8, c: u8) -> Facts
     requires { rows ≤ row_limit }
     ensures { result ≡ facts_in (store_program rows store.now) (store_flow store.now) c }
 {
-    let sends = rows_of_kind(store, rows, SEND);
-    let receives = rows_of_kind(store, rows, RECV);
-    let syncs = rows_of_kind(store, rows, SYNC);
-    let sent = places(store, rows, Side::Sends, &sends, &syncs, c);
-    let received = places(store, rows, Side::Receives, &receives, &syncs, c);
-    if none_marked(&sent) {
-        if none_marked(&received) {
-            return nothing_found();
-        }
+    let sends = Kind::Send.listed(store, rows);
+    let receives = Kind::Recv.listed(store, rows);
+    let syncs = Kind::Sync.listed(store, rows);
+    let sent = places(store, rows, Side::Sends, sends.rows(), syncs.rows(), c);
+    let received = places(store, rows, Side::Receives, receives.rows(), syncs.rows(), c);
+    if none_marked(&sent) && none_marked(&received) {
+        return NO_FACTS;
     }
     let mut grid = [0u8; GRID];
     fill_reach(store, rows, &mut grid);
     let comes = reached_rows(&grid, rows);
-    let spawns = rows_of_kind(store, rows, SPAWN);
-    facts(store, rows, &grid, &spawns, &comes, &sent, &received)
+    let spawns = Kind::Spawn.listed(store, rows);
+    facts(
+        store,
+        rows,
+        &grid,
+        spawns.rows(),
+        &comes,
+        &sent,
+        &received,
+    )
 }
 
 // The five words, in the order one-shot, one-to-one, fan-out, fan-in, one-sync, by what is found.
 fn five(found: Facts) -> [bool; 5]
     ensures { result ≡ map (λ word. says word found) verdict_words }
 {
-    let one_shot = says(Word::OneShot, found);
-    let one_to_one = says(Word::OneToOne, found);
-    let fan_out = says(Word::FanOut, found);
-    let fan_in = says(Word::FanIn, found);
-    let one_sync = says(Word::OneSync, found);
-    [one_shot, one_to_one, fan_out, fan_in, one_sync]
+    let words = [
+        Word::OneShot,
+        Word::OneToOne,
+        Word::FanOut,
+        Word::FanIn,
+        Word::OneSync,
+    ];
+    words.map(|word| says(word, found))
 }
 
 // The five words of channel row c, told by a grid.

@@ -1,4 +1,4 @@
--- `ends_of` meets its contract: where there are no places nothing is found, else what the bytes find is what the definitions say.
+-- Where there are no places nothing is found, else what the bytes find is what the definitions say.
 use Rattle.verdicts.proofs.Ends.{ends_are, ends_nowhere, none_there}
 use Rattle.verdicts.proofs.ends_of.Goals as goal
 
