@@ -19,8 +19,7 @@ use Rattle.calls.specs.Answers.{JudgeAnswer}
 use Rattle.calls.specs.Layout.{word_of, decode_claims}
 use Rattle.calls.proofs.Codec.Sparse.{either}
 use Rattle.store.proofs.Claims.{claims_on, claims_next}
-use Rattle.claims.specs.declared.Held.{Held}
-use Rattle.claims.specs.Claims.{claims_held, judged_at}
+use Rattle.claims.specs.Claims.{Held, claims_held, judged_at}
 
 -- ---- one claim more
 
@@ -31,7 +30,7 @@ module _ (ok : Claim → Bool) (s : Bytes) (base held : ℕ) where
   pub held_start : claims_held ok held (claims_on s base 0) ≡ claims_held ok held (decode_claims 0 (take row_limit (drop base s)))
   held_start = rw add-zero
 
-  pub held_end : (c : ℕ) → row_limit ≤ c → held_from held c ≡ Held.All held
+  pub held_end : (c : ℕ) → row_limit ≤ c → held_from held c ≡ Ok held
   unfolding decode_claims claims_held
   held_end c l = let q : row_limit - c ≡ 0 = omega arith in rw q
 
@@ -43,24 +42,24 @@ module _ (ok : Claim → Bool) (s : Bytes) (base held : ℕ) where
     unfolding claims_held
     held_holds z h = rw (claims_next s base c l, ← e, ne_eqb code 0 z, h)
 
-    pub held_fails : (code ≡ 0 → ⊥) → ok (record { channel = c; word = word_of code }) ≡ false → held_from held c ≡ Held.Until held
+    pub held_fails : (code ≡ 0 → ⊥) → ok (record { channel = c; word = word_of code }) ≡ false → held_from held c ≡ Err held
     unfolding claims_held
     held_fails z h = rw (claims_next s base c l, ← e, ne_eqb code 0 z, h)
 
 -- ---- no claim, and no claim that fails
 
-pub held_empty : (ok : Claim → Bool) (ks : List Claim) {many : ℕ} → many ≡ length ks → many ≡ 0 → Held.All many ≡ claims_held ok 0 ks
+pub held_empty : (ok : Claim → Bool) (ks : List Claim) {many : ℕ} → many ≡ length ks → many ≡ 0 → Ok many ≡ claims_held ok 0 ks
 unfolding claims_held
-held_empty ok [] e z = ap Held.All z
+held_empty ok [] e z = ap Ok z
 held_empty ok (k ∷ ks) e z = absurd (omega (arith, e, z))
 
-held_more : (ok : Claim → Bool) → ((k : Claim) → ok k ≡ true) → (held : ℕ) (ks : List Claim) → claims_held ok held ks ≡ Held.All (held + length ks)
+held_more : (ok : Claim → Bool) → ((k : Claim) → ok k ≡ true) → (held : ℕ) (ks : List Claim) → claims_held ok held ks ≡ Ok (held + length ks)
 unfolding claims_held
-held_more ok h held [] = ap Held.All (sym (add-zero held))
+held_more ok h held [] = ap Ok (sym (add-zero held))
 held_more ok h held (k ∷ ks) = let q : held + 1 + length ks ≡ held + suc (length ks) = omega arith in rw (h k) (rw q at (held_more ok h (held + 1) ks))
 
-pub held_all : (ok : Claim → Bool) (ks : List Claim) {many : ℕ} → many ≡ length ks → ((k : Claim) → ok k ≡ true) → Held.All many ≡ claims_held ok 0 ks
-held_all ok ks e h = let q : 0 + length ks ≡ length ks = omega arith in ap Held.All e ∙ sym (rw q at (held_more ok h 0 ks))
+pub held_all : (ok : Claim → Bool) (ks : List Claim) {many : ℕ} → many ≡ length ks → ((k : Claim) → ok k ≡ true) → Ok many ≡ claims_held ok 0 ks
+held_all ok ks e h = let q : 0 + length ks ≡ length ks = omega arith in ap Ok e ∙ sym (rw q at (held_more ok h 0 ks))
 
 -- ---- the first that fails
 

@@ -10,15 +10,11 @@ ghost use Rattle.grids.specs.Grid.{grid_size, Shows};
 ghost use Rattle.claims.specs.Claims.{claim_in, store_claims, claims_held, holding};
 
 use claim_words::word_of;
-use row_lists::{RECV, SEND, SPAWN, SYNC, rows_of_kind};
+use row_lists::Kind;
 use store::Store;
 
 // How the claims fare: how many there are, if all hold, or how many hold before the first that fails.
-#[derive(Drop)]
-pub enum Held {
-    All(usize),
-    Until(usize),
-}
+pub type Held = Result<usize, usize>;
 
 // The claims in turn.
 pub fn judge_claims(store: &[u8], rows: u8, grid: &[u8]) -> Held
@@ -27,27 +23,32 @@ pub fn judge_claims(store: &[u8], rows: u8, grid: &[u8]) -> Held
     ensures { let bytes = store.now in (result ≡ claims_held (claim_in (store_program rows bytes) (store_flow bytes)) 0 (store_claims bytes)) × (holding result ≤ row_limit) }
 {
     let comes = walks::reached_rows(grid, rows);
-    let sends = rows_of_kind(store, rows, SEND);
-    let receives = rows_of_kind(store, rows, RECV);
-    let syncs = rows_of_kind(store, rows, SYNC);
-    let spawns = rows_of_kind(store, rows, SPAWN);
+    let sends = Kind::Send.listed(store, rows);
+    let receives = Kind::Recv.listed(store, rows);
+    let syncs = Kind::Sync.listed(store, rows);
+    let spawns = Kind::Spawn.listed(store, rows);
     let mut held = 0;
-    let mut c = 0;
-    while c < Store::ROWS {
+    for c in 0..Store::ROWS {
         let code = read_text::byte_at(store, Store::CLAIMS + c);
-        let row = c as u8;
-        c += 1;
         if code == 0 {
             continue;
         }
         let word = word_of(code);
-        if verdicts::word_holds(
-            store, rows, grid, &comes, &sends, &receives, &syncs, &spawns, row, word,
+        if !verdicts::word_holds(
+            store,
+            rows,
+            grid,
+            &comes,
+            sends.rows(),
+            receives.rows(),
+            syncs.rows(),
+            spawns.rows(),
+            c as u8,
+            word,
         ) {
-            held += 1;
-            continue;
+            return Err(held);
         }
-        return Held::Until(held);
+        held += 1;
     }
-    Held::All(held)
+    Ok(held)
 }

@@ -17,7 +17,7 @@ use channel_asks::passing_sends;
 use form_rule::keeps_form;
 use forms::row_in;
 use program::Row;
-use row_lists::{CHAN, SEND, rows_of_kind};
+use row_lists::Kind;
 use store::NO_ROW;
 
 // Whether row r keeps the rule of its form; a result has none.
@@ -45,10 +45,10 @@ pub fn failing_row(store: &[u8], rows: u8) -> u8
     ensures { let bytes = store.now in result ≡ row_or (least rows (λ r. not (keeps_at (store_program rows bytes) (store_flow bytes) (store_comm bytes) r))) }
 {
     let names = result_names(store, rows);
-    let chans = rows_of_kind(store, rows, CHAN);
-    let sends = rows_of_kind(store, rows, SEND);
-    let with = passing_sends(store, rows, &chans, &sends, true);
-    let without = passing_sends(store, rows, &chans, &sends, false);
+    let chans = Kind::Chan.listed(store, rows);
+    let sends = Kind::Send.listed(store, rows);
+    let with = passing_sends(store, rows, chans.rows(), sends.rows(), true);
+    let without = passing_sends(store, rows, chans.rows(), sends.rows(), false);
     let mut r = 0;
     while r < rows {
         if keeps_row(store, rows, r, &names, &with, &without) {

@@ -22,7 +22,7 @@ pub fn no_verdict(refusal: Refusal) -> VerdictAnswer
 {
     VerdictAnswer {
         status: Err(refusal),
-        words: [false, false, false, false, false],
+        words: [false; 5],
     }
 }
 

@@ -33,8 +33,7 @@ use Rattle.store.specs.Document.{store_document}
 use Rattle.store.proofs.Document.{claims_are, claim_line_lem, rows_decode, flow_is, comm_is, document_is}
 use Rattle.tables.specs.Tables.{store_flow, store_comm}
 use Rattle.verdicts.specs.Words.{word_in}
-use Rattle.claims.specs.declared.Held.{Held}
-use Rattle.claims.specs.Claims.{claim_in, claims_held, judged_at}
+use Rattle.claims.specs.Claims.{Held, claim_in, claims_held, judged_at}
 use Rattle.claims.proofs.Claiming.{answer_of, judged_is}
 
 -- the count of the claims

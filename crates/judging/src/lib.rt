@@ -19,7 +19,7 @@ use claims::Held;
 use format::Reason;
 use grids::GRID;
 use judge_answers::{flow_refusal, no_verdict, not_a_channel};
-use row_lists::{SYNC, rows_of_kind};
+use row_lists::Kind;
 use store::Store;
 
 // The line of the first claim in the text that write would give.
@@ -44,11 +44,10 @@ fn claims_answer(store: &[u8], rows: u8, held: Held) -> JudgeAnswer
     ensures { result ≡ judged_at (claim_line (decode store.now)) held }
 {
     match held {
-        Held::All(count) => Ok(count),
-        Held::Until(count) => {
+        Ok(count) => Ok(count),
+        Err(count) => {
             let line = claim_line(store, rows);
-            let fails = line + count;
-            Err(Reason::ClaimFails.at(fails))
+            Err(Reason::ClaimFails.at(line + count))
         }
     }
 }
@@ -61,11 +60,11 @@ fn claims_held(store: &[u8], rows: u8) -> Held
 {
     let many = line_counts::count_claims(&store[Store::CLAIMS..]);
     if many == 0 {
-        return Held::All(many);
+        return Ok(many);
     }
-    let syncs = rows_of_kind(store, rows, SYNC);
-    if read_text::byte_at(&syncs, 0) == 0 {
-        return Held::All(many);
+    let syncs = Kind::Sync.listed(store, rows);
+    if syncs.rows().is_empty() {
+        return Ok(many);
     }
     let mut grid = [0u8; GRID];
     reach::fill_reach(store, rows, &mut grid);
@@ -116,15 +115,15 @@ pub fn verdict_rows(store: &[u8], rows: u8, channel: usize) -> VerdictAnswer
         return not_a_channel();
     }
     let c = channel as u8;
-    if forms::is_chan(store, rows, c) {
-        let failing = flow::failing_row(store, rows);
-        if failing < rows {
-            return no_verdict(flow_refusal(failing));
-        }
-        return VerdictAnswer {
-            status: Ok(()),
-            words: verdicts::lone_words(store, rows, c),
-        };
+    if !forms::is_chan(store, rows, c) {
+        return not_a_channel();
     }
-    not_a_channel()
+    let failing = flow::failing_row(store, rows);
+    if failing < rows {
+        return no_verdict(flow_refusal(failing));
+    }
+    VerdictAnswer {
+        status: Ok(()),
+        words: verdicts::lone_words(store, rows, c),
+    }
 }

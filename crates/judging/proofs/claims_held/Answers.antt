@@ -6,15 +6,19 @@ use Rattle.verdicts.proofs.Wording.{words_hold}
 use Rattle.grids.proofs.Keeping.{zeros_show}
 use mathlib.Core.Path.{refl, sym, ◌∙◌}
 use borrow.Author.Rules.{rules}
+use borrow.Author.Tests.{eqb-true}
 use Rattle.judging.proofs.claims_held.Goals as goal
 
 pub returns-then-many-eq0 : goal.returns-then-many-eq0
 unfolding holding
 returns-then-many-eq0 c = let (many, few) = claims_counted c.args.store.now c.requires.store_len c.count_claims-many.ensures in (held_empty _ _ many c.if-many-eq0.true, few)
 
-pub returns-then-byte_at-eq0 : goal.returns-then-byte_at-eq0
+pub returns-then-is_empty : goal.returns-then-is_empty
 unfolding claim_in holding
-returns-then-byte_at-eq0 c = let (many, few) = claims_counted c.args.store.now c.requires.store_len c.count_claims-many.ensures in (held_all _ _ many (λ k. words_hold _ _ c.rows_of_kind-syncs.ensures (sym c.byte_at.ensures ∙ c.if-byte_at-eq0.true) _ _), few)
+returns-then-is_empty c =
+    let (many, few) = claims_counted c.args.store.now c.requires.store_len c.count_claims-many.ensures in
+    let none = eqb-true _ _ (sym (rw c.rows.ensures at c.is_empty.ensures) ∙ c.if-is_empty.true) in
+    (held_all _ _ many (λ k. words_hold _ _ c.listed-syncs.ensures none _ _), few)
 
 pub fill_reach-requires : goal.fill_reach-requires
 fill_reach-requires c = record { rows_le_row_limit = (c.requires.rows_le_row_limit, search rules); shows = zeros_show _ refl }

@@ -10,10 +10,10 @@ returns-then-rows-channel c = rw c.not_a_channel.ensures (no_channel _ _ c.requi
 pub returns-then-failing-rows : goal.returns-then-failing-rows
 returns-then-failing-rows c =
     rw (c.no_verdict.ensures, c.flow_refusal.ensures)
-    (verdict_refused _ _ c.requires.rows_value _ (sym c.is_chan.ensures ∙ c.if-is_chan.true) c.failing_row-failing.ensures
+    (verdict_refused _ _ c.requires.rows_value _ (sym c.is_chan.ensures ∙ c.if-not-is_chan.false) c.failing_row-failing.ensures
     c.if-failing-rows.true)
 
-pub returns-then-is_chan : goal.returns-then-is_chan
-returns-then-is_chan c =
-    verdict_goes _ _ c.requires.rows_value _ (sym c.is_chan.ensures ∙ c.if-is_chan.true) c.failing_row-failing.ensures c.if-failing-rows.false
+pub returns : goal.returns
+returns c =
+    verdict_goes _ _ c.requires.rows_value _ (sym c.is_chan.ensures ∙ c.if-not-is_chan.false) c.failing_row-failing.ensures c.if-failing-rows.false
     c.lone_words.ensures
