@@ -148,7 +148,14 @@ fn lone_facts(store: &[u8], rows: u8, c: u8) -> Facts
     let receives = Kind::Recv.listed(store, rows);
     let syncs = Kind::Sync.listed(store, rows);
     let sent = places(store, rows, Side::Sends, sends.rows(), syncs.rows(), c);
-    let received = places(store, rows, Side::Receives, receives.rows(), syncs.rows(), c);
+    let received = places(
+        store,
+        rows,
+        Side::Receives,
+        receives.rows(),
+        syncs.rows(),
+        c,
+    );
     if none_marked(&sent) && none_marked(&received) {
         return NO_FACTS;
     }
@@ -156,15 +163,7 @@ fn lone_facts(store: &[u8], rows: u8, c: u8) -> Facts
     fill_reach(store, rows, &mut grid);
     let comes = reached_rows(&grid, rows);
     let spawns = Kind::Spawn.listed(store, rows);
-    facts(
-        store,
-        rows,
-        &grid,
-        spawns.rows(),
-        &comes,
-        &sent,
-        &received,
-    )
+    facts(store, rows, &grid, spawns.rows(), &comes, &sent, &received)
 }
 
 // The five words, in the order one-shot, one-to-one, fan-out, fan-in, one-sync, by what is found.
