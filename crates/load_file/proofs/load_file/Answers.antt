@@ -3,7 +3,7 @@ use Rattle.load_file.proofs.Files.{too_long, no_lines_stored, cleared_long, line
 use Rattle.load_file.proofs.load_file.Goals as goal
 
 pub returns-then-file-gt-FILE_BYTES : goal.returns-then-file-gt-FILE_BYTES
-returns-then-file-gt-FILE_BYTES c = too_long _ _ c.if-file-gt-FILE_BYTES.true c.refuse.ensures
+returns-then-file-gt-FILE_BYTES c = too_long _ _ c.if-file-gt-FILE_BYTES.true (rw c.at.ensures at c.refuse.ensures)
 
 pub load_lines-requires : goal.load_lines-requires
 load_lines-requires c =
