@@ -6,7 +6,6 @@ use mathlib.Core.Path.{◌≡◌, refl, ◌∙◌}
 use Rattle.format.specs.declared.Refusal.{Refusal}
 use Rattle.format.specs.Text.{Bytes}
 use Rattle.calls.specs.declared.Counts.{Counts}
-use Rattle.calls.specs.Answers.{LoadAnswer}
 use Rattle.calls.specs.Answers.{JudgeAnswer}
 use Rattle.calls.specs.Answers.{refusal_answer, load_answer, judge_answer}
 use Rattle.calls.specs.Calls.{Leaves, unaltered, load, judge}

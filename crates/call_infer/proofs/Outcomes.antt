@@ -13,7 +13,6 @@ use Rattle.format.specs.Document.{Document}
 use Rattle.format.proofs.Structure.{orderly_of}
 use Rattle.program.specs.Program.{Program}
 use Rattle.calls.specs.declared.Counts.{Counts}
-use Rattle.calls.specs.Answers.{LoadAnswer}
 use Rattle.calls.specs.Layout.{store_size, encode, decode}
 use Rattle.calls.specs.Canonical.{count_rows}
 use Rattle.calls.specs.Calls.{Leaves, opened, refilled, loaded, stored, and_then}
@@ -22,7 +21,6 @@ use Rattle.calls.proofs.Codec.{encode-length, decode-encode}
 use Rattle.calls.proofs.Calls.{opened_is}
 use Rattle.inference.proofs.Inference.{smallest_well}
 use Rattle.store.proofs.Laws.{program_length}
-use Rattle.opening.specs.Opening.{Opened}
 use Rattle.opening.specs.Opening.{OpenedIs}
 use Rattle.opening.proofs.Opening.{refused_is, opens_is}
 use Rattle.send_adds.specs.Sends.{Ready}

@@ -9,7 +9,6 @@ use Rattle.calls.specs.Answers.{JudgeAnswer}
 use Rattle.calls.specs.Layout.{store_size, decode}
 use Rattle.calls.specs.Judging.{judge_document}
 use Rattle.calls.specs.Calls.{opened, and_then, judge_answered, judge}
-use Rattle.opening.specs.Opening.{Opened}
 use Rattle.opening.specs.Opening.{OpenedIs}
 use Rattle.opening.proofs.Opening.{refused_is, opens_is}
 

@@ -8,8 +8,7 @@ use lib.Seq.{sets}
 use Rattle.format.specs.declared.Refusal.{Refusal}
 use Rattle.format.specs.Text.{Bytes}
 use Rattle.format.specs.Document.{Document}
-use Rattle.calls.specs.Answers.{LoadAnswer}
-use Rattle.calls.specs.Answers.{JudgeAnswer}
+use Rattle.calls.specs.Answers.{LoadAnswer, JudgeAnswer}
 use Rattle.calls.specs.Layout.{member_limit, store_size, flow_at, decode}
 use Rattle.calls.specs.Judging.{judge_document}
 use Rattle.calls.specs.Calls.{Outcome, Leaves, unaltered, judge_answered, judge}

@@ -16,7 +16,6 @@ use Rattle.format.specs.Text.{Bytes}
 use Rattle.calls.specs.Calls.{opened}
 use Rattle.calls.specs.Layout.{store_size}
 use Rattle.store.specs.Rows.{store_program}
-use Rattle.opening.specs.Opening.{Opened}
 use Rattle.opening.specs.Opening.{OpenedIs}
 use Rattle.opening.proofs.Opening.{refused_is, opens_is}
 use Rattle.machine.specs.declared.ThreadRecord.{ThreadRecord}

@@ -8,7 +8,6 @@ use Rattle.format.specs.Text.{Bytes}
 use Rattle.calls.specs.declared.VerdictAnswer.{VerdictAnswer}
 use Rattle.calls.specs.Layout.{store_size, decode}
 use Rattle.calls.specs.Calls.{opened, and_then, no_verdict, verdict_given, verdict_of, verdict}
-use Rattle.opening.specs.Opening.{Opened}
 use Rattle.opening.specs.Opening.{OpenedIs}
 use Rattle.opening.proofs.Opening.{refused_is, opens_is}
 

@@ -25,7 +25,6 @@ use Rattle.store.specs.Rows.{store_program}
 use Rattle.store.proofs.Document.{rows_decode}
 use Rattle.seen.specs.Flags.{flag, Tells}
 use Rattle.seen.specs.Seen.{Marks}
-use Rattle.opening.specs.Opening.{Opened}
 use Rattle.opening.specs.Opening.{OpenedIs}
 use Rattle.opening.proofs.Opening.{opens_is}
 use Rattle.write_sets.specs.Keys.{Keyed, StoreKeys}

@@ -15,13 +15,11 @@ use Rattle.format.specs.Text.{Bytes}
 use Rattle.format.specs.Refusals.{refusal, accepted}
 use Rattle.format.specs.Document.{Document}
 use Rattle.format.specs.Print.{document_text}
-use Rattle.calls.specs.Answers.{WriteAnswer}
 use Rattle.calls.specs.Layout.{store_size, decode}
 use Rattle.calls.specs.Calls.{Leaves, opened, and_then, written, write}
 use Rattle.write_bytes.specs.Write.{Room, Wrote}
 use Rattle.store.specs.Document.{store_document}
 use Rattle.store.proofs.Document.{document_is}
-use Rattle.opening.specs.Opening.{Opened}
 use Rattle.opening.specs.Opening.{OpenedIs}
 use Rattle.opening.proofs.Opening.{refused_is, opens_is}
 

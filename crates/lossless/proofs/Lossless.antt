@@ -15,9 +15,7 @@ use Rattle.format.specs.declared.Reason.TheVariants.{StoreTooShort, OutputTooSho
 use Rattle.format.specs.Refusals.{refusal, Result, refused, accepted}
 use Rattle.format.specs.Document.{Document}
 use Rattle.format.specs.Print.{document_text}
-use Rattle.calls.specs.Answers.{LoadAnswer}
-use Rattle.calls.specs.Answers.{WriteAnswer}
-use Rattle.calls.specs.Answers.{Answer, turned_back, answered, refusal_answer, load_answer, judge_answer, verdict_answer, write_answer}
+use Rattle.calls.specs.Answers.{LoadAnswer, Answer, turned_back, answered, refusal_answer, load_answer, judge_answer, verdict_answer, write_answer}
 use Rattle.calls.specs.Layout.{store_size, decode}
 use Rattle.calls.specs.Canonical.{count_rows}
 use Rattle.calls.specs.Judging.{verdict_words}

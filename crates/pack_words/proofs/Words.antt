@@ -11,7 +11,6 @@ use Rattle.std.specs.Result.{result_and}
 use Rattle.calls.specs.Answers.{VerdictStatus, yes_or_no, status_answer, verdict_answer}
 use Rattle.calls.specs.declared.VerdictAnswer.{VerdictAnswer}
 use Rattle.packing.specs.Packing.{answer_of}
-use Rattle.pack_words.specs.declared.Words.{Words}
 use Rattle.pack_words.specs.Words.{word_values}
 use Rattle.packing.specs.Packing.{in_bits, word_bits}
 

@@ -10,6 +10,7 @@ use calls::VerdictAnswer;
 use packing::{Packs, pack};
 
 // The five words of a verdict.
+#[derive(Drop)]
 struct Words {
     words: [bool; 5],
 }

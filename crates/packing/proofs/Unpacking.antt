@@ -35,11 +35,8 @@ use Rattle.format.specs.declared.Reason.TheVariants.{
 }
 use Rattle.format.specs.declared.Refusal.{Refusal}
 use Rattle.format.specs.Refusals.{number}
-use Rattle.calls.specs.Answers.{LoadAnswer}
-use Rattle.calls.specs.Answers.{JudgeAnswer, VerdictStatus}
-use Rattle.calls.specs.Answers.{WriteAnswer}
+use Rattle.calls.specs.Answers.{LoadAnswer, JudgeAnswer, VerdictStatus, WriteAnswer, Answer, turned_back, answered, refusal_answer, load_answer, judge_answer, write_answer, yes_or_no, status_answer, verdict_answer}
 use Rattle.calls.specs.declared.VerdictAnswer.{VerdictAnswer}
-use Rattle.calls.specs.Answers.{Answer, turned_back, answered, refusal_answer, load_answer, judge_answer, write_answer, yes_or_no, status_answer, verdict_answer}
 use Rattle.packing.specs.Packing.{in_bits, packed, count_bits, word_bits, number_bits, Short, Lossless}
 
 -- so many values of so many bits each, the first lowest

@@ -17,7 +17,6 @@ use Rattle.format.specs.Text.{Bytes, byte_at}
 use Rattle.format.specs.Refusals.{refusal, accepted}
 use Rattle.format.specs.Read.{rising}
 use Rattle.format.specs.Structure.{member_allowed}
-use Rattle.calls.specs.Answers.{LoadAnswer}
 use Rattle.calls.specs.Layout.{store_size, decode}
 use Rattle.calls.specs.Calls.{opened}
 use Rattle.calls.proofs.Canonical.Rows.{count_rows-le}
@@ -28,7 +27,6 @@ use Rattle.store.specs.Rows.{store_program}
 use Rattle.store.proofs.Document.{rows_decode}
 use Rattle.seen.specs.Flags.{flag, Tells}
 use Rattle.seen.specs.Seen.{Marks}
-use Rattle.opening.specs.Opening.{Opened}
 use Rattle.opening.specs.Opening.{OpenedIs}
 use Rattle.opening.proofs.Opening.{refused_is, opens_is}
 use Rattle.handed_sets.specs.Handed.{list_allowed, Marked}

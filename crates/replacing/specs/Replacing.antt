@@ -3,7 +3,6 @@ use Rattle.std.specs.Prelude.{Ok, Err}
 use Rattle.std.specs.Prelude.{ℕ, Bool, ◌≡◌, take}
 use Rattle.std.proofs.Math.Bool.{So}
 use Rattle.format.specs.Text.{Bytes}
-use Rattle.calls.specs.Answers.{LoadAnswer}
 use Rattle.calls.specs.Layout.{store_size, flags_of, decode}
 use Rattle.calls.specs.Calls.{opened}
 use Rattle.replacement.specs.Replacement.{members_of, is_bound, set_allowed, replace}

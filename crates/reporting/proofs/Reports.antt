@@ -15,10 +15,7 @@ use Rattle.format.specs.Refusals.{number, refusal, Result, refused, accepted}
 use Rattle.format.specs.Document.{Document}
 use Rattle.format.proofs.Files.{check_iff}
 use Rattle.calls.specs.declared.Counts.{Counts}
-use Rattle.calls.specs.Answers.{LoadAnswer}
-use Rattle.calls.specs.Answers.{JudgeAnswer}
-use Rattle.calls.specs.Answers.{WriteAnswer}
-use Rattle.calls.specs.Answers.{turned_back, answered, refusal_answer, load_answer, judge_answer}
+use Rattle.calls.specs.Answers.{JudgeAnswer, turned_back, answered, refusal_answer, load_answer, judge_answer}
 use Rattle.calls.specs.Layout.{store_size, decode}
 use Rattle.calls.specs.Judging.{judge_document}
 use Rattle.calls.specs.Calls.{opened, load, judge_answered, judge}
@@ -28,7 +25,6 @@ use Rattle.calls.proofs.Calls.{loaded_is, opened_loaded, judge-opened}
 use Rattle.report.proofs.Report.{load_text, refused_short, judged_short, report_short, report_calls}
 use Rattle.write_bytes.specs.Write.{Room, Wrote}
 use Rattle.write_bytes.proofs.Progress.{at_head}
-use Rattle.opening.specs.Opening.{Opened}
 use Rattle.opening.specs.Opening.{OpenedIs}
 use Rattle.opening.proofs.Opening.{refused_is, opens_is, counted}
 use Rattle.judging.proofs.Documents.{few_rows}

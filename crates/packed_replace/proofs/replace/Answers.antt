@@ -1,7 +1,6 @@
 -- The answer of replace has bounds, so that it is packed without loss; the rest is what replace and packing promise.
 use mathlib.Core.Path.{ap, ◌∙◌}
-use Rattle.calls.specs.Answers.{LoadAnswer}
-use Rattle.calls.specs.Answers.{load_answer}
+use Rattle.calls.specs.Answers.{LoadAnswer, load_answer}
 use Rattle.packing.specs.Packing.{packed, count_bits}
 use Rattle.lossless.proofs.Lossless.{replace_lossless}
 use Rattle.packed_replace.proofs.replace.Goals as goal
