@@ -1,6 +1,6 @@
 //! Flow rules: what the sets must hold at every row.
 //!
-//! Renders "Flow rules (001, section 4, at every row)". Members of a set that
+//! Renders the flow rules, at every row. Members of a set that
 //! are not of the kind a rule speaks of are passed over by it.
 
 use super::document::{Document, Form, Name, Set};
