@@ -36,8 +36,5 @@ pub fn form_at(store: &[u8], rows: u8, r: u8) -> Form
 pub fn is_chan(store: &[u8], rows: u8, r: u8) -> bool
     ensures { result ≡ chan_row (store_program rows store.now) r }
 {
-    let Form::Chan = form_at(store, rows, r) else {
-        return false;
-    };
-    true
+    matches!(form_at(store, rows, r), Form::Chan)
 }

@@ -12,11 +12,8 @@ use store::Store;
 pub fn has_row(set: &[u8], r: u8) -> bool
     ensures { result ≡ set_of set.now (row r) }
 {
-    if set.len() < Store::MEMBERS {
-        return false;
-    }
     let member = r as usize + 1;
-    0 < read_text::byte_at(set, member)
+    Store::MEMBERS <= set.len() && 0 < read_text::byte_at(set, member)
 }
 
 // Whether unit is in a set.
@@ -24,8 +21,5 @@ pub fn has_row(set: &[u8], r: u8) -> bool
 pub fn has_unit(set: &[u8]) -> bool
     ensures { result ≡ set_of set.now u }
 {
-    if set.len() < Store::MEMBERS {
-        return false;
-    }
-    0 < read_text::byte_at(set, 0)
+    Store::MEMBERS <= set.len() && 0 < read_text::byte_at(set, 0)
 }

@@ -27,7 +27,7 @@ use Rattle.sets.proofs.Tests.{implies_true, all_true, all_shift}
 -- ---- the bytes of two sets
 
 -- one member more
-pub unless_in_step : (found a b : ℕ) → eqb (max found (unless_in a b)) 0 ≡ (ltb 0 a ⇒ ltb 0 b) && eqb found 0
+unless_in_step : (found a b : ℕ) → eqb (max found (unless_in a b)) 0 ≡ (ltb 0 a ⇒ ltb 0 b) && eqb found 0
 unfolding unless_in
 unless_in_step found zero zero =
     let q : max found 0 ≡ found = omega arith in
@@ -36,6 +36,11 @@ unless_in_step found (suc a) zero = rw (ne_eqb (max found (suc a)) 0 (λ e. omeg
 unless_in_step found a (suc b) =
     let q : max found 0 ≡ found = omega arith in
     rw (ne_eqb (suc b) 0 (λ e. omega arith), lt-ltb 0 (suc b) (omega arith), implies_true (ltb 0 a), q)
+
+-- where the first members are looked at, and then one more
+pub within_more : (i : ℕ) (a b : Bytes) (rest : ℕ) → eqb rest 0 ≡ within i a b → eqb (max rest (unless_in (byte_at a i) (byte_at b i))) 0 ≡ within (i + 1) a b
+unfolding within all
+within_more i a b rest h = rw (unless_in_step rest (byte_at a i) (byte_at b i), h, add-one)
 
 pub set_full : (s : Bytes) → member_limit ≤ length s → set_of s ≡ λ a. ltb 0 (byte_at s (member a))
 unfolding set_of

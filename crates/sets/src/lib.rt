@@ -1,16 +1,17 @@
 // Sets as bytes, a byte for each member: unit first, then the rows. The sets of a store, and whether one lies in another.
 #![tactic(auto)]
 
-ghost use Rattle.std.specs.Prelude.{◌≡◌, ◌+◌, ◌≤◌, length};
+ghost use Rattle.std.specs.Prelude.{◌≡◌, ◌≤◌, length};
 ghost use Rattle.program.specs.Flow.{lies};
 ghost use Rattle.format.specs.Limits.{row_limit};
-ghost use Rattle.calls.specs.Layout.{sets_size, store_size};
+ghost use Rattle.calls.specs.Layout.{store_size};
 ghost use Rattle.store.specs.Rows.{store_program};
 ghost use Rattle.tables.specs.Tables.{store_flow, store_comm};
+ghost use Rattle.tables.specs.Starts.{start};
 ghost use Rattle.sets.specs.Sets.{Sized, set_of, part_at, within, lies_below, unless_in};
 
-use byte_order::larger;
 use store::Store;
+use tables::Table;
 
 // The byte of a member in a set, or 0 where another set has it too.
 #[tactic(auto, unfolding(crate::specs::Sets::unless_in))]
@@ -21,17 +22,14 @@ pub fn unless_in(a: u8, b: u8) -> u8
 }
 
 // Whether b has each of the first members that a has. Every member is looked at, so that the loop has no way out but its end.
-#[tactic(auto, using(crate::proofs::Members::unless_in_step), unfolding(crate::specs::Sets::within, program::specs::Test::all))]
+#[tactic(auto, unfolding(crate::specs::Sets::within, program::specs::Test::all))]
 fn within(a: &[u8], b: &[u8], members: usize) -> bool
     requires { (members ≤ length a.now) × (members ≤ length b.now) }
     ensures { result ≡ within members a.now b.now }
 {
     let mut rest = 0;
-    let mut i = 0;
-    while i < members {
-        let x = unless_in(a[i], b[i]);
-        rest = larger(rest, x);
-        i += 1;
+    for i in 0..members {
+        rest = rest.max(unless_in(a[i], b[i]));
     }
     rest == 0
 }
@@ -51,43 +49,40 @@ pub fn lies_in(a: &[u8], b: &[u8], rows: u8) -> bool
         return within(a, &none, members);
     }
     // Of all members first: a sound store has no others, and a loop of a fixed length takes them many at a time to the end.
-    if within(a, b, Store::MEMBERS) {
-        return true;
-    }
-    within(a, b, members)
+    within(a, b, Store::MEMBERS) || within(a, b, members)
 }
 
-// The bytes of the set of name or channel row n, of the sets that begin at a base; no bytes where there is no such set.
+// The bytes of set n of a table; no bytes where there is no such set.
 #[tactic(auto, unfolding(crate::specs::Sets::part_at))]
-fn set_at(store: &[u8], base: usize, n: u8) -> &[u8]
-    requires { base + sets_size ≤ length store.now }
-    ensures { result.now ≡ part_at store.now base n }
+fn set_at(store: &[u8], table: Table, n: u8) -> &[u8]
+    requires { store_size ≤ length store.now }
+    ensures { result.now ≡ part_at store.now (start table) n }
 {
     let k = n as usize;
     if Store::ROWS <= k {
         return &store[0..0];
     }
-    let from = base + k * Store::MEMBERS;
+    let from = table.start() + k * Store::MEMBERS;
     let to = from + Store::MEMBERS;
     &store[from..to]
 }
 
 // The set of name n.
-#[tactic(auto, using(crate::proofs::Members::flow_part))]
+#[tactic(auto, using(crate::proofs::Members::flow_part), unfolding(tables::specs::Starts::start))]
 pub fn flow_set(store: &[u8], n: u8) -> &[u8]
     requires { store_size ≤ length store.now }
     ensures { set_of result.now ≡ store_flow store.now n }
 {
-    set_at(store, Store::FLOWS, n)
+    set_at(store, Table::Flow, n)
 }
 
 // The set of channel row c.
-#[tactic(auto, using(crate::proofs::Members::comm_part))]
+#[tactic(auto, using(crate::proofs::Members::comm_part), unfolding(tables::specs::Starts::start))]
 pub fn comm_set(store: &[u8], c: u8) -> &[u8]
     requires { store_size ≤ length store.now }
     ensures { set_of result.now ≡ store_comm store.now c }
 {
-    set_at(store, Store::COMMS, c)
+    set_at(store, Table::Comm, c)
 }
 
 // Whether the set of name n lies in a set.
@@ -96,8 +91,7 @@ pub fn flow_lies(store: &[u8], rows: u8, n: u8, to: &[u8]) -> bool
     requires { Sized rows store.now }
     ensures { let bytes = store.now in result ≡ lies (store_program rows bytes) (store_flow bytes n) (set_of to.now) }
 {
-    let from = flow_set(store, n);
-    lies_in(from, to, rows)
+    lies_in(flow_set(store, n), to, rows)
 }
 
 // Whether the set of channel row c lies in a set.
@@ -106,8 +100,7 @@ pub fn comm_lies(store: &[u8], rows: u8, c: u8, to: &[u8]) -> bool
     requires { Sized rows store.now }
     ensures { let bytes = store.now in result ≡ lies (store_program rows bytes) (store_comm bytes c) (set_of to.now) }
 {
-    let from = comm_set(store, c);
-    lies_in(from, to, rows)
+    lies_in(comm_set(store, c), to, rows)
 }
 
 // Whether a set lies in the set of channel row c.
@@ -116,6 +109,5 @@ pub fn lies_in_comm(store: &[u8], rows: u8, from: &[u8], c: u8) -> bool
     requires { Sized rows store.now }
     ensures { let bytes = store.now in result ≡ lies (store_program rows bytes) (set_of from.now) (store_comm bytes c) }
 {
-    let to = comm_set(store, c);
-    lies_in(from, to, rows)
+    lies_in(from, comm_set(store, c), rows)
 }

@@ -9,4 +9,4 @@ pub returns-then-b-lt-MEMBERS : goal.returns-then-b-lt-MEMBERS
 returns-then-b-lt-MEMBERS c = c.within.ensures ∙ within_short _ _ _ _ c.if-a-lt-MEMBERS.false c.if-b-lt-MEMBERS.true (zeros_at member_limit)
 
 pub returns-then-within : goal.returns-then-within
-returns-then-within c = sym (sym (within_lies _ _ _ c.if-a-lt-MEMBERS.false c.if-b-lt-MEMBERS.false) ∙ within_fewer _ member_limit _ _ (omega arith) (sym c.within-2.ensures ∙ c.if-within.true))
+returns-then-within c = c.if-within.true ∙ sym (sym (within_lies _ _ _ c.if-a-lt-MEMBERS.false c.if-b-lt-MEMBERS.false) ∙ within_fewer _ member_limit _ _ (omega arith) (sym c.within-2.ensures ∙ c.if-within.true))
