@@ -1,5 +1,5 @@
 -- The results that the rows of a store's program come to.
-use Prim.Native.Nat.{ℕ, ◌+◌, ◌-◌, ◌≤◌, ◌<◌}
+use Prim.Native.Nat.{ℕ, ◌+◌, ◌≤◌, ◌<◌}
 use native.Mathlib.Omega.{arith}
 use native.Mathlib.Decide.{dec_lt, ℕ_discrete as dec_eq}
 use mathlib.Core.Path.{◌≡◌, ap, ◌∙◌}

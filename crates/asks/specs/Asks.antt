@@ -7,6 +7,12 @@ use Rattle.format.specs.Text.{Bytes, byte_at}
 use Rattle.store.specs.Rows.{store_program}
 use Rattle.tables.specs.Tables.{store_flow, store_comm}
 use Rattle.asks.specs.declared.rules.Ask.{Ask}
+use Rattle.asks.specs.declared.rules.Part.{Part}
+
+-- what takes a part of a pair
+unfoldable pub ask_of : Part → Ask
+ask_of Part.First = Ask.First
+ask_of Part.Second = Ask.Second
 
 -- a byte for each row: the name of the result reached from it
 unfoldable pub Names : Program → Bytes → Type 0

@@ -28,12 +28,9 @@ pub fn result_names(store: &[u8], rows: u8) -> [u8; Store::ROWS]
 {
     let results = result_rows(store, rows);
     let mut names = [0u8; Store::ROWS];
-    let mut t = 0;
-    while t < rows {
+    for t in 0..rows {
         let i = t as usize;
-        let name = name_of(row_in(store, rows, results[i]));
-        names[i] = name;
-        t += 1;
+        names[i] = name_of(row_in(store, rows, results[i]));
     }
     names
 }

@@ -15,17 +15,6 @@ use program::Form;
 use sets::flow_set;
 use sync_rule::keeps_sync;
 
-// Whether row r is in the set of name n and in that of a function's own name.
-fn keeps_fun(store: &[u8], rows: u8, r: u8, n: u8, own: u8) -> bool
-    requires { Sized rows store.now }
-    ensures { let bytes = store.now in result ≡ store_flow bytes n (row r) && store_flow bytes own (row r) }
-{
-    if has_row(flow_set(store, n), r) {
-        return has_row(flow_set(store, own), r);
-    }
-    false
-}
-
 // Whether row r keeps the rule of its form, where its bind has the name n. The last arm is that of the value rows other than fun.
 #[tactic(auto, unfolding(program::specs::Flow::keeps_form, sync_rule::specs::Rules::sync_test, program::specs::Flow::send_rule, program::specs::Flow::recv_rule, channel_asks::specs::Channels::send_test, sync_rule::specs::Rules::recv_test, asks::specs::Asks::asks, asks::specs::Asks::Names))]
 pub fn keeps_form(
@@ -47,12 +36,8 @@ pub fn keeps_form(
     let to = flow_set(store, n);
     match form {
         Form::Unit => has_unit(to),
-        Form::Fun {
-            own,
-            parameter: _,
-            body: _,
-        } => keeps_fun(store, rows, r, n, own),
-        Form::Spawn { child: _ } => has_unit(to),
+        Form::Fun { own, .. } => has_row(to, r) && has_row(flow_set(store, own), r),
+        Form::Spawn { .. } => has_unit(to),
         Form::Sync { event } => keeps_sync(store, rows, n, event, with, without),
         Form::First { pair } => each_passes(store, rows, Ask::First, names, pair, to),
         Form::Second { pair } => each_passes(store, rows, Ask::Second, names, pair, to),

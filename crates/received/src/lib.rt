@@ -9,7 +9,6 @@ ghost use Rattle.tables.specs.Tables.{store_flow, store_comm};
 ghost use Rattle.sets.specs.Sets.{Sized, set_of};
 ghost use Rattle.received.specs.Received.{Takes, Gathered, Free, hears, gives};
 
-use byte_order::{larger, smaller};
 use forms::form_at;
 use program::Form;
 use sets::{comm_set, flow_set};
@@ -25,12 +24,9 @@ fn join(set: &mut [u8], other: &[u8])
     if other.len() < Store::MEMBERS {
         return;
     }
-    let mut i = 0;
-    while i < Store::MEMBERS {
-        let new = smaller(other[i], 1);
-        let own = set[i];
-        set[i] = larger(own, new);
-        i += 1;
+    for i in 0..Store::MEMBERS {
+        let new = other[i].min(1);
+        set[i] = set[i].max(new);
     }
 }
 
@@ -38,7 +34,7 @@ fn join(set: &mut [u8], other: &[u8])
 const BLOCK: u8 = 16;
 
 // Whether a block begins at row k and none of its rows is in a set. Every row is looked at, so that the loop has no way out but its end.
-#[tactic(auto, using(crate::proofs::Gathering::free_none, crate::proofs::Gathering::free_more))]
+#[tactic(auto, using(crate::proofs::Gathering::free_none))]
 fn block_free(set: &[u8], k: u8) -> bool
     requires { k < row_limit }
     ensures { result ≡ true → Free set.now k 16 }
@@ -52,11 +48,8 @@ fn block_free(set: &[u8], k: u8) -> bool
         return false;
     }
     let mut found = 0;
-    let mut i = 0;
-    while i < rows {
-        let at = from + i;
-        found = larger(found, set[at]);
-        i += 1;
+    for i in 0..rows {
+        found = found.max(set[from + i]);
     }
     found == 0
 }
@@ -84,9 +77,10 @@ pub fn heard(store: &[u8], rows: u8, e: u8) -> [u8; Store::MEMBERS]
     let events = flow_set(store, e);
     let mut set = [0u8; Store::MEMBERS];
     let mut k = 0;
+    // Not a count: a step is one row or a block of them.
     while k < rows {
         if block_free(events, k) {
-            k = smaller(k + BLOCK, rows);
+            k = (k + BLOCK).min(rows);
         } else {
             hear_row(store, rows, e, k, &mut set);
             k += 1;
@@ -118,9 +112,10 @@ pub fn held(store: &[u8], rows: u8, channels: &[u8]) -> [u8; Store::MEMBERS]
 {
     let mut set = [0u8; Store::MEMBERS];
     let mut k = 0;
+    // Not a count: a step is one row or a block of them.
     while k < rows {
         if block_free(channels, k) {
-            k = smaller(k + BLOCK, rows);
+            k = (k + BLOCK).min(rows);
         } else {
             give_row(store, rows, channels, k, &mut set);
             k += 1;

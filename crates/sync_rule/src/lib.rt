@@ -20,10 +20,8 @@ fn sends_pass(store: &[u8], rows: u8, e: u8, given: bool, with: &[u8], without: 
     requires sends_2 { Sends rows store.now false without.now }
     ensures { let bytes = store.now in result ≡ for_each (store_program rows bytes) (store_flow bytes e) (send_test (store_program rows bytes) (store_flow bytes) (store_comm bytes) given) }
 {
-    if given {
-        return flow_lies(store, rows, e, with);
-    }
-    flow_lies(store, rows, e, without)
+    let passing = if given { with } else { without };
+    flow_lies(store, rows, e, passing)
 }
 
 // Whether each row in the set of name e passes a sync whose bind has the name n: its send rows, and then all that it may receive at once.
@@ -35,11 +33,10 @@ pub fn keeps_sync(store: &[u8], rows: u8, n: u8, e: u8, with: &[u8], without: &[
     ensures { let bytes = store.now in result ≡ sync_test (store_program rows bytes) (store_flow bytes) (store_comm bytes) (store_flow bytes n) e }
 {
     let to = flow_set(store, n);
-    let given = has_unit(to);
-    if sends_pass(store, rows, e, given, with, without) {
-        let channels = heard(store, rows, e);
-        let values = held(store, rows, &channels);
-        return lies_in(&values, to, rows);
+    if !sends_pass(store, rows, e, has_unit(to), with, without) {
+        return false;
     }
-    false
+    let channels = heard(store, rows, e);
+    let values = held(store, rows, &channels);
+    lies_in(&values, to, rows)
 }

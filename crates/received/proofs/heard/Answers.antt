@@ -11,8 +11,8 @@ loop-k-init c = (omega arith, gathered_none _)
 pub loop-k-preserved-then-block_free : goal.loop-k-preserved-then-block_free
 loop-k-preserved-then-block_free c =
     let free = c.block_free.ensures c.if-block_free.true in (
-      omega (arith, c.smaller-k.ensures),
-      rw c.smaller-k.ensures
+      omega (arith, c.min-k.ensures),
+      rw c.min-k.ensures
           (gathered_block 16 _ c.loop-k.invariant.0 c.loop-k.invariant.1 λ i l m.
           hears_other _ _ i _ (sym (ap (λ (t : Set). t (row i)) c.flow_set-events.ensures) ∙ free_row _ _ 16 free i l m)),
     )

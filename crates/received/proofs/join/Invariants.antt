@@ -1,5 +1,5 @@
--- `join` meets its contract. The loop's invariant: the bytes below i are joined. The measure is the number of members left.
-use Prim.Native.Nat.{◌≤◌, ◌-◌}
+-- `join` meets its contract. The loop's invariant: the bytes below i are joined.
+use Prim.Native.Nat.{◌≤◌}
 use mathlib.Core.Path.{◌≡◌}
 use lib.ListN.{length}
 use Rattle.calls.specs.Layout.{member_limit}
@@ -10,6 +10,3 @@ use Rattle.received.proofs.join.Given as goal
 abbrev pub invariant-loop-i : goal.invariant-loop-i
 invariant-loop-i l =
     (l.i ≤ member_limit) × (length l.set ≡ length l.initial.set) × Bytewise joined l.i l.other l.initial.set l.set
-
-abbrev pub decreases-loop-i : goal.decreases-loop-i
-decreases-loop-i l = member_limit - l.i

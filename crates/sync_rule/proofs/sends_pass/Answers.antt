@@ -2,9 +2,10 @@
 use mathlib.Core.Path.{◌∙◌}
 use Rattle.sets.proofs.Members.{marks-lies}
 use Rattle.sync_rule.proofs.sends_pass.Goals as goal
-
-pub returns-then-given : goal.returns-then-given
-returns-then-given c = rw c.if-given.true (c.flow_lies.ensures ∙ marks-lies _ _ _ _ _ c.requires.sends)
+use Rattle.sync_rule.proofs.sends_pass.Goals.{then-given, else-given}
 
 pub returns : goal.returns
-returns c = rw c.if-given.false (c.flow_lies-2.ensures ∙ marks-lies _ _ _ _ _ c.requires.sends_2)
+returns c = c.flow_lies.ensures ∙ elim c.if-given.branch [
+  | then-given w ↦ rw (w.passing-is, w.if-given.true) (marks-lies _ _ _ _ _ c.requires.sends)
+  | else-given w ↦ rw (w.passing-is, w.if-given.false) (marks-lies _ _ _ _ _ c.requires.sends_2)
+]

@@ -9,7 +9,7 @@ pub loop-t-init : goal.loop-t-init
 loop-t-init c = (omega arith, filled_none _)
 
 pub loop-t-preserved : goal.loop-t-preserved
-loop-t-preserved c = (omega arith, filled_more _ (omega arith) c.loop-t.invariant.1 (c.name_of-name.ensures ∙ ap name_of c.row_in.ensures ∙ result_named _ _ (omega arith) c.result_rows-results.ensures))
+loop-t-preserved c = (omega arith, filled_more _ (omega arith) c.loop-t.invariant.1 (c.name_of.ensures ∙ ap name_of c.row_in.ensures ∙ result_named _ _ (omega arith) c.result_rows-results.ensures))
 
 pub returns : goal.returns
 unfolding Names
