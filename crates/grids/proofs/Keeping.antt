@@ -1,14 +1,12 @@
 -- What stays of a grid of which bytes are replaced, and a grid of zeros.
-use Prim.Native.Nat.{ℕ, ◌+◌, ◌*◌, ◌<◌}
+use Prim.Native.Nat.{ℕ, ◌+◌, ◌*◌}
 use native.Mathlib.Omega.{arith}
-use native.Mathlib.Decide.{ℕ_discrete}
 use mathlib.Core.Bool.{false}
 use mathlib.Core.Path.{◌≡◌, refl, ◌∙◌}
-use lib.ListN.{length, get_or, set, replicate, get_or-replicate}
-use lib.Seq.{get_or-set_same, get_or-set_other}
+use lib.ListN.{replicate, get_or-replicate}
 use Rattle.format.specs.Limits.{row_limit}
 use Rattle.format.specs.Text.{Bytes}
-use Rattle.grids.specs.Grid.{grid_size, Kept, Shows, Fills}
+use Rattle.grids.specs.Grid.{grid_size, Kept, Shows}
 
 -- ---- what is kept
 
@@ -22,15 +20,3 @@ kept_then h k = record { same_length = k.same_length ∙ h.same_length; past = �
 
 pub zeros_show : (i : ℕ) → i ≡ grid_size → Shows (λ r s. false) (replicate i 0)
 zeros_show i e r s lr ls = get_or-replicate i (s * row_limit + r) 0 0 (omega arith)
-
-pub zeros_filled : {grid : Bytes} → Shows (λ r s. false) grid → Fills (λ r s. false) grid grid
-zeros_filled {grid} h = record { kept = kept_all grid; shows = h }
-
--- one more element of a list that is filled from the left
-pub filled_more : (f : ℕ → ℕ) (k : ℕ) (xs : Bytes) → k < length xs → ((i : ℕ) → i < k → get_or xs i 0 ≡ f i)
-    → (i : ℕ) → i < k + 1 → get_or (set xs k (f k)) i 0 ≡ f i
-filled_more f k xs l h i lt =
-    elim (ℕ_discrete i k) [
-      | yes e ↦ rw e (get_or-set_same xs k _ 0 l)
-      | no e ↦ get_or-set_other xs k i _ 0 e ∙ h i (omega arith)
-    ]

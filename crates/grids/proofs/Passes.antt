@@ -2,6 +2,7 @@
 use Prim.Native.Nat.{ℕ, ◌+◌, ◌*◌, ◌<◌, ◌≤◌, max}
 use native.Mathlib.Omega.{arith}
 use native.Mathlib.Decide.{dec_lt, ℕ_discrete}
+use mathlib.Core.Bool.{false, false≢true}
 use mathlib.Core.Path.{◌≡◌, refl, sym, ap, ◌∙◌}
 use lib.ListN.{length, get_or, set}
 use lib.Seq.{get_or-set_same, get_or-set_other}
@@ -72,8 +73,11 @@ joined_all n h e =
       row = λ c l. h.row c (omega arith);
     }
 
-pub so_all : (n : ℕ) {grid way left : Bytes} {i j m : ℕ} → JoinedSo grid i way j left m → j ≡ n → RowChanged n grid i way left m
-so_all n h e = record { joined = joined_all n h.joined e; same = h.same }
+pub so_all : (n : ℕ) {grid way left : Bytes} {i j m : ℕ} → JoinedSo grid i way j left m → j ≡ n → RowChanged n grid i way left (ltb 0 m)
+so_all n {m = m} h e = record { joined = joined_all n h.joined e; same = λ z. h.same (none m z) }
+  where
+    none : (m : ℕ) → ltb 0 m ≡ false → m ≡ 0
+    none m z = elim (dec_lt 0 m) [ yes l ↦ absurd (false≢true (sym z ∙ lt-ltb 0 m l)) | no g ↦ omega arith ]
 
 -- ---- row i by way of row k, where it reaches that
 
@@ -100,14 +104,14 @@ pub record PassedTo (n : ℕ) (grid : Bytes) (k i : ℕ) (left : Bytes) : Type 0
 pub passed_none : (n : ℕ) (grid : Bytes) (k : ℕ) → PassedTo n grid k 0 grid
 passed_none n grid k = record { done = λ r j l m. absurd (omega arith); beside = λ r j l m b. absurd (omega arith); past = λ q l. refl }
 
-pub passed_more : {n k i : ℕ} {grid way left next : Bytes} → n ≤ row_limit → k < n → PassedTo n grid k i left → RowIs n grid k way
+pub passed_more : {n k i : ℕ} {grid way left next : Bytes} → n ≤ row_limit → k < n → PassedTo n grid k i left → RowIs row_limit grid k way
     → RowPassed n left i k way next → PassedTo n grid k (i + 1) next
 passed_more {k = k} {i} ln lk h is p =
     record {
       done = λ r j l m.
           elim (ℕ_discrete r i) [
             | yes e ↦
-                rw e (p.row j m ∙ rw (h.past (i * row_limit + j) (omega arith), h.past (i * row_limit + k) (omega arith), is.bytes j m))
+                rw e (p.row j m ∙ rw (h.past (i * row_limit + j) (omega arith), h.past (i * row_limit + k) (omega arith), is.bytes j (omega arith)))
             | no e ↦ p.only.below (r * row_limit + j) (omega arith) ∙ h.done r j (omega arith) m
           ];
       beside = λ r j l m b.

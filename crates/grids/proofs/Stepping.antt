@@ -11,7 +11,7 @@ use lib.Dec.{eqb, ltb}
 use borrow.Author.Tests.{eq-eqb, ne_eqb, eqb-true, lt-ltb, le-ltb}
 use Rattle.program.specs.Test.{any}
 use Rattle.program.specs.Closure.{closed}
-use Rattle.program.proofs.Test.{and_left, and_right, or_left, or_right, or_cases}
+use Rattle.program.proofs.Test.{and_left, and_right, or_left, or_right, or_cases, or_neither}
 use Rattle.format.specs.Limits.{row_limit}
 use Rattle.format.specs.Text.{Bytes}
 use Rattle.grids.specs.Grid.{pair_byte, among, step, Within, Follows}
@@ -43,7 +43,7 @@ module _ (n : ℕ) where
 -- ---- steps, one after the other
 
 module _ {n : ℕ} where
-  pub follows_none : {f : ℕ → ℕ → Bool} (grid : Bytes) → ((r s : ℕ) → r < n → s < n → f r s ≡ false) → Follows n f grid grid 0
+  pub follows_none : {f : ℕ → ℕ → Bool} (grid : Bytes) → ((r s : ℕ) → r < n → s < n → f r s ≡ false) → Follows n f grid grid false
   follows_none grid h =
       record {
         kept = kept_all grid;
@@ -54,7 +54,7 @@ module _ {n : ℕ} where
         onward = λ e a b la lb t. absurd (false≢true (sym (h a b la lb) ∙ t));
       }
 
-  pub follows_as : {f g : ℕ → ℕ → Bool} {a b : Bytes} {m : ℕ} → ((r s : ℕ) → f r s ≡ g r s) → Follows n f a b m → Follows n g a b m
+  pub follows_as : {f g : ℕ → ℕ → Bool} {a b : Bytes} {m : Bool} → ((r s : ℕ) → f r s ≡ g r s) → Follows n f a b m → Follows n g a b m
   follows_as {f} {g} e h =
       record {
         kept = h.kept;
@@ -65,22 +65,23 @@ module _ {n : ℕ} where
         onward = λ z a b la lb t. h.onward z a b la lb (rw (e a b) t);
       }
 
-  pub follows_then : {f g : ℕ → ℕ → Bool} {a b c : Bytes} (x y : ℕ) {m : ℕ} → m ≡ max x y → Follows n f a b x → Follows n g b c y → Follows n (λ r s. f r s || g r s) a c m
+  pub follows_then : {f g : ℕ → ℕ → Bool} {a b c : Bytes} (x y : Bool) {m : Bool} → m ≡ (x || y) → Follows n f a b x → Follows n g b c y → Follows n (λ r s. f r s || g r s) a c m
   follows_then {f} {g} {a} {b} {c} x y {m} e h k =
       record {
         kept = kept_then h.kept k.kept;
         within = λ o i w. k.within o (λ r s t. i r s (or_right (f r s) t)) (h.within o (λ r s t. i r s (or_left (g r s) t)) w);
         grows = λ i. omega (arith, h.grows i, k.grows i);
         marks = λ r s lr ls t. ⊎_elim (λ u. omega (arith, h.marks r s lr ls u, k.grows (s * row_limit + r))) (λ u. k.marks r s lr ls u) (or_cases (f r s) (g r s) t);
-        same = λ z i. k.same (omega arith) i ∙ h.same (omega arith) i;
-        onward = λ z r s lr ls t q lq o.
-            let same = k.same (omega arith) in
-            ⊎_elim (λ u. rw (← (same (s * row_limit + q))) at (h.onward (omega arith) r s lr ls u q lq (rw (same (r * row_limit + q)) at o))) (λ u. k.onward (omega arith) r s lr ls u q lq o)
+        same = λ z i. let q = or_neither x y (sym e ∙ z) in k.same q.1 i ∙ h.same q.0 i;
+        onward = λ z r s lr ls t q lq p.
+            let o = or_neither x y (sym e ∙ z) in
+            let same = k.same o.1 in
+            ⊎_elim (λ u. rw (← (same (s * row_limit + q))) at (h.onward o.0 r s lr ls u q lq (rw (same (r * row_limit + q)) at p))) (λ u. k.onward o.1 r s lr ls u q lq p)
             (or_cases (f r s) (g r s) t);
       }
 
   -- what each number below k + 1 gives, k last
-  pub follows_next : (f : ℕ → ℕ → ℕ → Bool) (k x y : ℕ) {m : ℕ} {a b c : Bytes} → m ≡ max x y → Follows n (λ r s. any k λ q. f q r s) a b x → Follows n (f k) b c y
+  pub follows_next : (f : ℕ → ℕ → ℕ → Bool) (k : ℕ) (x y : Bool) {m : Bool} {a b c : Bytes} → m ≡ (x || y) → Follows n (λ r s. any k λ q. f q r s) a b x → Follows n (f k) b c y
       → Follows n (λ r s. any (k + 1) λ q. f q r s) a c m
   unfolding any
   follows_next f k x y e h i = follows_as (λ r s. rw add-one (or_comm (any k λ q. f q r s) (f k r s))) (follows_then x y e h i)
@@ -104,7 +105,7 @@ module _ (n a b : ℕ) where
   unfolding step
   step_ends r s h = (eqb-true r a (and_left _ (eqb s b) h), eqb-true s b (and_right (eqb r a) _ h))
 
-  module _ (few : n ≤ row_limit) (la : a < n) (lb : b < n) {grid way left : Bytes} {m : ℕ}
+  module _ (few : n ≤ row_limit) (la : a < n) (lb : b < n) {grid way left : Bytes} {m : Bool}
       (is : (j : ℕ) → j < n → (j ≡ a → ⊥) → get_or way j 0 ≡ pair_byte grid j a) (itself : get_or way a 0 ≡ 1) (joined : RowChanged n grid b way left m) (size : length left ≡ length grid)
     where
       row_b : (r : ℕ) → r < n → pair_byte left r b ≡ max (pair_byte grid r b) (get_or way r 0)
@@ -188,7 +189,7 @@ module _ (n a b : ℕ) where
           marked : 0 < pair_byte left a b
           marked = omega (arith, row_b a la, itself)
 
-          onward : m ≡ 0 → (q : ℕ) → q < n → 0 < pair_byte left q a → 0 < pair_byte left q b
+          onward : m ≡ false → (q : ℕ) → q < n → 0 < pair_byte left q a → 0 < pair_byte left q b
           onward z q lq o =
               elim (ℕ_discrete q a) [
                 | yes e ↦ rw e marked

@@ -1,5 +1,5 @@
 -- A grid of bytes, one for each pair of rows: which byte tells of which pair, and what a grid shows of a relation between rows.
-use Rattle.std.specs.Prelude.{ℕ, ◌+◌, ◌*◌, ◌<◌, ◌≤◌, Bool, ◌&&◌, ◌≡◌, ◌⊎◌, length, get_or, ltb, eqb}
+use Rattle.std.specs.Prelude.{ℕ, ◌+◌, ◌*◌, ◌<◌, ◌≤◌, Bool, false, ◌&&◌, ◌≡◌, ◌⊎◌, length, get_or, ltb, eqb}
 use Rattle.std.proofs.Math.Bool.{So}
 use Rattle.program.specs.Test.{pick}
 use Rattle.program.specs.Closure.{closed}
@@ -51,15 +51,15 @@ Marks n f grid = (a b : ℕ) → a < n → b < n → So (f a b) → 0 < pair_byt
 abbrev pub Onward : ℕ → (ℕ → ℕ → Bool) → Bytes → Type 0
 Onward n f grid = (a b : ℕ) → a < n → b < n → So (f a b) → (r : ℕ) → r < n → 0 < pair_byte grid r a → 0 < pair_byte grid r b
 
--- The steps that the test tells, taken one after the other: each is marked, and who was marked to reach its beginning is marked to reach its end. `changed` is 0 only
--- where no byte was altered.
-pub record Follows (n : ℕ) (f : ℕ → ℕ → Bool) (grid left : Bytes) (changed : ℕ) : Type 0 where
+-- The steps that the test tells, taken one after the other: each is marked, and who was marked to reach its beginning is marked to reach its end. `changed` is false
+-- only where no byte was altered.
+pub record Follows (n : ℕ) (f : ℕ → ℕ → Bool) (grid left : Bytes) (changed : Bool) : Type 0 where
   pub kept : Kept grid left
   pub within : (g : ℕ → ℕ → Bool) → ((a b : ℕ) → So (f a b) → So (g a b)) → Within n g grid → Within n g left
   pub grows : (i : ℕ) → get_or grid i 0 ≤ get_or left i 0
   pub marks : Marks n f left
-  pub same : changed ≡ 0 → (i : ℕ) → get_or left i 0 ≡ get_or grid i 0
-  pub onward : changed ≡ 0 → Onward n f left
+  pub same : changed ≡ false → (i : ℕ) → get_or left i 0 ≡ get_or grid i 0
+  pub onward : changed ≡ false → Onward n f left
 
 -- a grid that shows a relation between the first n rows now shows its closure
 pub record Closes (n : ℕ) (grid left : Bytes) : Type 0 where

@@ -1,5 +1,5 @@
 -- A round of Warshall's over a grid of bytes, row by row. All of it speaks of the first n rows.
-use Rattle.std.specs.Prelude.{ℕ, ◌+◌, ◌*◌, ◌<◌, ◌≤◌, max, ◌≡◌, get_or, eqb}
+use Rattle.std.specs.Prelude.{ℕ, ◌+◌, ◌*◌, ◌<◌, ◌≤◌, max, Bool, false, ◌≡◌, get_or, eqb}
 use Rattle.program.specs.Test.{pick}
 use Rattle.format.specs.Limits.{row_limit}
 use Rattle.format.specs.Text.{Bytes}
@@ -19,10 +19,10 @@ pub record RowJoined (n : ℕ) (grid : Bytes) (i : ℕ) (way left : Bytes) : Typ
   pub only : RowOnly n grid i left
   pub row : (j : ℕ) → j < n → row_byte left i j ≡ max (row_byte grid i j) (get_or way j 0)
 
--- the same, with what changed: 0 only where no byte was altered
-pub record RowChanged (n : ℕ) (grid : Bytes) (i : ℕ) (way left : Bytes) (changed : ℕ) : Type 0 where
+-- the same, with what changed: false only where no byte was altered
+pub record RowChanged (n : ℕ) (grid : Bytes) (i : ℕ) (way left : Bytes) (changed : Bool) : Type 0 where
   pub joined : RowJoined n grid i way left
-  pub same : changed ≡ 0 → (q : ℕ) → get_or left q 0 ≡ get_or grid q 0
+  pub same : changed ≡ false → (q : ℕ) → get_or left q 0 ≡ get_or grid q 0
 
 -- a byte of a row that takes over another row's byte where the byte `via` is not 0
 unfoldable pub passed : ℕ → ℕ → ℕ → ℕ

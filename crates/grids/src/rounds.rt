@@ -6,21 +6,16 @@ ghost use Rattle.format.specs.Limits.{row_limit};
 ghost use Rattle.grids.specs.Grid.{grid_size, step, Follows, Closes};
 ghost use Rattle.grids.specs.Rounds.{RowIs, RowChanged, RowPassed, AllPassed};
 
-use byte_order::larger;
 use store::Store;
 
 // Row k of the grid, all of it. It is read from this copy while the grid is written, so that the loop over a row takes many bytes at a time.
-fn row_of(grid: &[u8], n: usize, k: usize) -> [u8; Store::ROWS]
-    requires { (n ≤ row_limit) × (k < n) × (grid_size ≤ length grid.now) }
-    ensures { RowIs n grid.now k result }
+fn row_of(grid: &[u8], k: usize) -> [u8; Store::ROWS]
+    requires { (k < row_limit) × (grid_size ≤ length grid.now) }
+    ensures { RowIs row_limit grid.now k result }
 {
-    let b = k * Store::ROWS;
+    let from = k * Store::ROWS;
     let mut row = [0u8; Store::ROWS];
-    let mut j = 0;
-    while j < Store::ROWS {
-        row[j] = grid[b + j];
-        j += 1;
-    }
+    row.copy_from_slice(&grid[from..from + Store::ROWS]);
     row
 }
 
@@ -31,30 +26,28 @@ fn grows(own: u8, other: u8) -> u8
     if own < other { 1 } else { 0 }
 }
 
-// Joins a row into row i of the grid; 0 if that alters nothing. Every byte is looked at, so that the loop takes many at a time.
-fn join_row(grid: &mut [u8], n: usize, i: usize, way: &[u8]) -> u8
+// Joins a row into row i of the grid. Whether that alters it; every byte is looked at, so that the loop takes many at a time.
+fn join_row(grid: &mut [u8], n: usize, i: usize, way: &[u8]) -> bool
     requires { (n ≤ row_limit) × (i < n) × (n ≤ length way.now) × (grid_size ≤ length grid.old) }
     ensures { RowChanged n grid.old i way.now grid.new result }
 {
     let a = i * Store::ROWS;
     let mut changed = 0;
-    let mut j = 0;
-    while j < n {
+    for j in 0..n {
         let own = grid[a + j];
         let other = way[j];
-        changed = larger(changed, grows(own, other));
-        grid[a + j] = larger(own, other);
-        j += 1;
+        changed = changed.max(grows(own, other));
+        grid[a + j] = own.max(other);
     }
-    changed
+    0 < changed
 }
 
-// Takes the step from row a to row b: what reaches row a, and a itself, reaches row b. 0 if that alters nothing.
-pub fn take_step(grid: &mut [u8], n: usize, a: usize, b: usize) -> u8
+// Takes the step from row a to row b: what reaches row a, and a itself, reaches row b. Whether that alters the grid.
+pub fn take_step(grid: &mut [u8], n: usize, a: usize, b: usize) -> bool
     requires { (n ≤ row_limit) × (a < n) × (b < n) × (grid_size ≤ length grid.old) }
     ensures { Follows n (step a b) grid.old grid.new result }
 {
-    let mut way = row_of(grid, n, a);
+    let mut way = row_of(grid, a);
     way[a] = 1;
     join_row(grid, n, b, &way)
 }
@@ -76,11 +69,9 @@ fn pass_all(grid: &mut [u8], n: usize, k: usize)
     requires { (n ≤ row_limit) × (k < n) × (grid_size ≤ length grid.old) }
     ensures { AllPassed n grid.old k grid.new }
 {
-    let way = row_of(grid, n, k);
-    let mut i = 0;
-    while i < n {
+    let way = row_of(grid, k);
+    for i in 0..n {
         pass_row(grid, n, i, k, &way);
-        i += 1;
     }
 }
 
@@ -89,9 +80,7 @@ pub fn close(grid: &mut [u8], n: usize)
     requires { (n ≤ row_limit) × (grid_size ≤ length grid.old) }
     ensures { Closes n grid.old grid.new }
 {
-    let mut k = 0;
-    while k < n {
+    for k in 0..n {
         pass_all(grid, n, k);
-        k += 1;
     }
 }

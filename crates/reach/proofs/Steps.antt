@@ -1,5 +1,6 @@
 -- The row steps that the rows give are the edges.
-use Prim.Native.Nat.{ℕ, ◌≤◌}
+use Prim.Native.Nat.{ℕ, ◌+◌, ◌<◌, ◌≤◌}
+use native.Mathlib.Omega.{arith}
 use mathlib.Core.Bool.{Bool, true, false, ◌&&◌, ◌||◌, So, or-false, false≢true}
 use Rattle.std.specs.Prelude.{Option, None as none, Some as some}
 use mathlib.Core.Path.{◌≡◌, refl, sym, ap, ◌∙◌, fun_ext}
@@ -25,7 +26,7 @@ use Rattle.format.specs.Limits.{row_limit}
 use Rattle.format.specs.Text.{Bytes}
 use Rattle.store.specs.Rows.{store_program}
 use Rattle.store.proofs.Laws.{program_length}
-use Rattle.grids.specs.Grid.{step, Fills, Closes, Kept, Within, Marks, Onward, Follows}
+use Rattle.grids.specs.Grid.{step, Shows, Fills, Closes, Kept, Within, Marks, Onward, Follows}
 use Rattle.grids.proofs.Keeping.{kept_all, kept_then}
 use Rattle.row_kinds.specs.Kinds.{kind_of, kind_of_row, kind_at}
 use Rattle.step_marks.specs.Marks.{call_steps, from_both}
@@ -288,7 +289,7 @@ module _ (p : Program) (flow : Table) where
       some h = let (q, l, i) = any_elim (length p) (λ q. row_steps p flow q r s) h in given q r s i
 
 -- in a store, what all n rows give
-pub follows_edges : (n : ℕ) (s : Bytes) (flow : Table) (q : ℕ) {m : ℕ} {a b : Bytes} → q ≡ n → Follows n (any_row (store_program n s) flow q) a b m
+pub follows_edges : (n : ℕ) (s : Bytes) (flow : Table) (q : ℕ) {m : Bool} {a b : Bytes} → q ≡ n → Follows n (any_row (store_program n s) flow q) a b m
     → Follows n (edge (store_program n s) flow) a b m
 follows_edges n s flow q e h =
     let l : q ≡ length (store_program n s) = e ∙ sym (program_length n s) in
@@ -296,34 +297,26 @@ follows_edges n s flow q e h =
 
 -- ---- the grid while the steps are taken again and again
 
--- it has nothing but what is reached, and every step; nothing else was altered
-pub record Between (n : ℕ) (f : ℕ → ℕ → Bool) (bytes grid : Bytes) : Type 0 where
+-- it has nothing but what is reached, and every step once they are taken; nothing else was altered
+pub record Taken (n k : ℕ) (f : ℕ → ℕ → Bool) (bytes grid : Bytes) : Type 0 where
   pub kept : Kept bytes grid
   pub within : Within n f grid
-  pub marks : Marks n f grid
+  pub marks : 0 < k → Marks n f grid
 
 module _ {n : ℕ} {f : ℕ → ℕ → Bool} where
-  pub between_first : {bytes clear grid : Bytes} {m : ℕ} → Fills (λ r s. false) bytes clear → Follows n f clear grid m → Between n f bytes grid
-  between_first h k =
-      record { kept = kept_then h.kept k.kept; within = k.within f (λ a b t. t) (λ r s lr ls. inl (h.shows r s lr ls)); marks = k.marks }
+  pub taken_none : {grid : Bytes} → Shows (λ r s. false) grid → Taken n 0 f grid grid
+  taken_none {grid} h = record { kept = kept_all grid; within = λ r s lr ls. inl (h r s lr ls); marks = λ l. absurd (omega arith) }
 
-  pub between_next : {bytes grid left : Bytes} {m : ℕ} → Between n f bytes grid → Follows n f grid left m → Between n f bytes left
-  between_next h k = record { kept = kept_then h.kept k.kept; within = k.within f (λ a b t. t) h.within; marks = k.marks }
+  pub taken_more : {k : ℕ} {bytes grid left : Bytes} {m : Bool} → Taken n k f bytes grid → Follows n f grid left m → Taken n (k + 1) f bytes left
+  taken_more h t = record { kept = kept_then h.kept t.kept; within = t.within f (λ a b e. e) h.within; marks = λ l. t.marks }
 
-  -- from the grid itself, and from an earlier one
-  pub between_here : {bytes grid : Bytes} → Between n f bytes grid → Between n f grid grid
-  between_here {grid = grid} h = record { kept = kept_all grid; within = h.within; marks = h.marks }
-
-  pub between_from : {bytes grid left : Bytes} → Between n f bytes grid → Between n f grid left → Between n f bytes left
-  between_from h k = record { kept = kept_then h.kept k.kept; within = k.within; marks = k.marks }
-
-module _ (n : ℕ) (s : Bytes) (flow : Table) (few : n ≤ row_limit) {bytes grid : Bytes} (h : Between n (edge (store_program n s) flow) bytes grid) where
+module _ (n : ℕ) (s : Bytes) (flow : Table) (few : n ≤ row_limit) {k : ℕ} {bytes grid : Bytes} (once : 0 < k) (h : Taken n k (edge (store_program n s) flow) bytes grid) where
   -- nothing changed
   pub fills_settled : Onward n (edge (store_program n s) flow) grid → Fills (reach (store_program n s) flow) bytes grid
   unfolding reach
-  fills_settled onward = record { kept = h.kept; shows = rw program_length (settled n (edge (store_program n s) flow) grid few h.within h.marks onward) }
+  fills_settled onward = record { kept = h.kept; shows = rw program_length (settled n (edge (store_program n s) flow) grid few h.within (h.marks once) onward) }
 
   -- closed by rounds
   pub fills_closed : {left : Bytes} → Closes n grid left → Fills (reach (store_program n s) flow) bytes left
   unfolding reach
-  fills_closed c = record { kept = kept_then h.kept c.kept; shows = rw program_length (closed_over n (edge (store_program n s) flow) grid few h.within h.marks c) }
+  fills_closed c = record { kept = kept_then h.kept c.kept; shows = rw program_length (closed_over n (edge (store_program n s) flow) grid few h.within (h.marks once) c) }

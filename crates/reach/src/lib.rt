@@ -13,8 +13,8 @@ pub mod edges; // edges.rt: the single row steps
 use edges::take_steps;
 use grids::close;
 
-// How often the steps are taken again before the grid is closed by rounds over all rows: rests rise, so few programs need more.
-const PASSES: u8 = 8;
+// How often the steps are taken before the grid is closed by rounds over all rows: rests rise, so few programs need more.
+const PASSES: u8 = 9;
 
 // Fills a grid of zeros: the byte of r and s is 1 if row s is reached from row r by one or more row steps, else 0, also where one of the
 // two is no row of the program. The bytes past the grid are kept.
@@ -24,14 +24,10 @@ pub fn fill_reach(store: &[u8], rows: u8, grid: &mut [u8])
     ensures { Fills (reach (store_program rows store.now) (store_flow store.now)) grid.old grid.new }
 {
     let results = results::result_rows(store, rows);
-    let mut changed = take_steps(store, rows, &results, grid);
-    let mut left = PASSES;
-    while 0 < changed {
-        if left == 0 {
-            close(grid, rows as usize);
+    for _ in 0..PASSES {
+        if !take_steps(store, rows, &results, grid) {
             return;
         }
-        left -= 1;
-        changed = take_steps(store, rows, &results, grid);
     }
+    close(grid, rows as usize);
 }

@@ -9,7 +9,7 @@ use forms::row_in;
 use program::{Form, Row};
 
 // What a row is, as far as row steps ask.
-#[derive(Drop)]
+#[derive(Clone, Copy, PartialEq, Eq)]
 pub enum Kind {
     End,
     Next {
@@ -40,53 +40,21 @@ fn kind_of(form: Form, rest: u8) -> Kind
     ensures { result ≡ kind_of rest form }
 {
     match form {
-        Form::Unit => Kind::Next { rest: rest },
-        Form::Chan => Kind::Next { rest: rest },
-        Form::Send {
-            channel: _,
-            message: _,
-        } => Kind::Next { rest: rest },
-        Form::Recv { channel: _ } => Kind::Next { rest: rest },
-        Form::Pair {
-            first: _,
-            second: _,
-        } => Kind::Next { rest: rest },
-        Form::Left { value: _ } => Kind::Next { rest: rest },
-        Form::Right { value: _ } => Kind::Next { rest: rest },
-        Form::Fun {
-            own: _,
-            parameter: _,
-            body,
-        } => Kind::Body {
-            body: body,
-            rest: rest,
-        },
-        Form::Spawn { child } => Kind::Fork {
-            child: child,
-            rest: rest,
-        },
-        Form::Sync { event: _ } => Kind::Next { rest: rest },
-        Form::First { pair: _ } => Kind::Next { rest: rest },
-        Form::Second { pair: _ } => Kind::Next { rest: rest },
+        Form::Fun { body, .. } => Kind::Body { body, rest },
+        Form::Spawn { child } => Kind::Fork { child, rest },
         Form::Case {
             subject,
-            left_name: _,
             left,
-            right_name: _,
             right,
+            ..
         } => Kind::Branch {
-            subject: subject,
-            left: left,
-            right: right,
-            rest: rest,
+            subject,
+            left,
+            right,
+            rest,
         },
-        Form::Apply {
-            function,
-            argument: _,
-        } => Kind::Call {
-            function: function,
-            rest: rest,
-        },
+        Form::Apply { function, .. } => Kind::Call { function, rest },
+        _ => Kind::Next { rest },
     }
 }
 
@@ -97,9 +65,6 @@ pub fn kind_at(store: &[u8], rows: u8, r: u8) -> Kind
 {
     match row_in(store, rows, r) {
         Row::Result(_) => Kind::End,
-        Row::Bind(b) => {
-            let form = b.form;
-            kind_of(form, b.rest)
-        }
+        Row::Bind(b) => kind_of(b.form, b.rest),
     }
 }

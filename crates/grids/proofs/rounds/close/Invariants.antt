@@ -1,5 +1,5 @@
--- The loop's invariant: the grid tells the closure by way of the rows below k. The measure is what is left of the rows.
-use Prim.Native.Nat.{◌≤◌, ◌-◌}
+-- The loop's invariant: the grid tells the closure by way of the rows below k.
+use Prim.Native.Nat.{◌≤◌}
 use mathlib.Core.Path.{◌≡◌}
 use lib.ListN.{length}
 use Rattle.grids.proofs.Closing.{ClosesTo}
@@ -8,6 +8,3 @@ use Rattle.grids.proofs.rounds.close.Given as goal
 abbrev pub invariant-loop-k : goal.invariant-loop-k
 invariant-loop-k l =
     (l.k ≤ l.n) × ((length l.grid ≡ length l.initial.grid) × ClosesTo l.n l.k l.initial.grid l.grid)
-
-abbrev pub decreases-loop-k : goal.decreases-loop-k
-decreases-loop-k l = l.n - l.k

@@ -1,5 +1,5 @@
--- The loop's invariant: the row is joined up to column j, and `changed` is 0 only where that altered nothing. The measure is what is left of the row.
-use Prim.Native.Nat.{◌≤◌, ◌-◌}
+-- The loop's invariant: the row is joined up to column j, and `changed` is 0 only where that altered nothing.
+use Prim.Native.Nat.{◌≤◌}
 use mathlib.Core.Path.{◌≡◌}
 use lib.ListN.{length}
 use Rattle.grids.proofs.Passes.{JoinedSo}
@@ -8,6 +8,3 @@ use Rattle.grids.proofs.rounds.join_row.Given as goal
 abbrev pub invariant-loop-j : goal.invariant-loop-j
 invariant-loop-j l =
     (l.j ≤ l.n) × ((length l.grid ≡ length l.initial.grid) × JoinedSo l.initial.grid l.i l.way l.j l.grid l.changed)
-
-abbrev pub decreases-loop-j : goal.decreases-loop-j
-decreases-loop-j l = l.n - l.j

@@ -11,4 +11,4 @@ loop-k-init c = (omega arith, (refl, follows_none _ (λ r s lr ls. refl)))
 
 pub loop-k-preserved : goal.loop-k-preserved
 unfolding any_body
-loop-k-preserved c = (omega arith, (c.mark_body-more.ensures.kept.same_length ∙ c.loop-k.invariant.1.0, follows_next (λ k r s. body_steps _ _ _ _ _ k r s) _ _ _ c.larger-changed.ensures c.loop-k.invariant.1.1 c.mark_body-more.ensures))
+loop-k-preserved c = (omega arith, (c.mark_body-changed.ensures.kept.same_length ∙ c.loop-k.invariant.1.0, follows_next (λ k r s. body_steps _ _ _ _ _ k r s) _ _ _ refl c.loop-k.invariant.1.1 c.mark_body-changed.ensures))

@@ -1,5 +1,5 @@
--- The loop's invariant: the steps of the calls of the rows below k are taken. The measure is what is left of the rows.
-use Prim.Native.Nat.{◌≤◌, ◌-◌}
+-- The loop's invariant: the steps of the calls of the rows below k are taken.
+use Prim.Native.Nat.{◌≤◌}
 use mathlib.Core.Path.{◌≡◌}
 use lib.ListN.{length}
 use Rattle.store.specs.Rows.{store_program}
@@ -11,6 +11,3 @@ use Rattle.reach.proofs.edges.mark_bodies.Given as goal
 abbrev pub invariant-loop-k : goal.invariant-loop-k
 invariant-loop-k l =
     (l.k ≤ l.rows) × ((length l.grid ≡ length l.initial.grid) × Follows l.rows (any_body (store_program l.rows l.store) (store_flow l.store) l.q l.rest l.f l.k) l.initial.grid l.grid l.changed)
-
-abbrev pub decreases-loop-k : goal.decreases-loop-k
-decreases-loop-k l = l.rows - l.k

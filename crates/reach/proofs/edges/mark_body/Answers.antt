@@ -21,13 +21,13 @@ no_body p q rest (Fork t rest') n r s = refl
 no_body p q rest (Branch k t w rest') n r s = refl
 no_body p q rest (Call f rest') n r s = refl
 
-pub returns-then-flow_flag-eq0 : goal.returns-then-flow_flag-eq0
-returns-then-flow_flag-eq0 c = follows_none _ (λ r s lr ls. body_out _ _ _ _ _ _ (sym c.flow_flag.ensures ∙ c.if-flow_flag-eq0.true) r s)
+pub returns-then-not-flow_has : goal.returns-then-not-flow_has
+returns-then-not-flow_has c = follows_none _ (λ r s lr ls. body_out _ _ _ _ _ _ (sym c.flow_has.ensures ∙ c.if-not-flow_has.true) r s)
 
 pub returns-in_default : goal.returns-in_default
 returns-in_default c = follows_none _ (λ r s lr ls. body_none _ _ _ _ _ _ (λ r s. rw (← c.kind_at.ensures) (no_body _ _ _ _ c.in_default.not-Body r s)) r s)
 
 pub returns : goal.returns
-returns c = follows_as (body_in _ _ _ _ _ _ (λ e. c.if-flow_flag-eq0.false (c.flow_flag.ensures ∙ e)) (sym c.kind_at.ensures ∙ c.in-Body.is)
+returns c = follows_as (body_in _ _ _ _ _ _ (sym c.flow_has.ensures ∙ c.if-not-flow_has.false) (sym c.kind_at.ensures ∙ c.in-Body.is)
     (c.result_of-result.ensures _ (program_length _ _) c.requires.result_rows))
     c.mark_call.ensures

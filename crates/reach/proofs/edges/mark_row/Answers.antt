@@ -20,10 +20,10 @@ returns-in-Body c = as_kind _ _ _ (sym c.kind_at.ensures ∙ c.in-Body.is) c.mar
 
 pub returns-in-Fork : goal.returns-in-Fork
 unfolding kind_steps
-returns-in-Fork c = as_kind _ _ _ (sym c.kind_at.ensures ∙ c.in-Fork.is) (follows_then _ _ c.larger.ensures c.mark-on.ensures c.mark-off.ensures)
+returns-in-Fork c = as_kind _ _ _ (sym c.kind_at.ensures ∙ c.in-Fork.is) (follows_then _ _ refl c.mark-on.ensures c.mark-off.ensures)
 
 pub returns-in-Branch : goal.returns-in-Branch
-returns-in-Branch c = as_branch _ _ _ _ _ (sym c.kind_at.ensures ∙ c.in-Branch.is) (c.result_of-left_result.ensures _ (program_length _ _) c.requires.result_rows) (c.result_of-right_result.ensures _ (program_length _ _) c.requires.result_rows) c.larger-in-Branch.ensures
+returns-in-Branch c = as_branch _ _ _ _ _ (sym c.kind_at.ensures ∙ c.in-Branch.is) (c.result_of-left_result.ensures _ (program_length _ _) c.requires.result_rows) (c.result_of-right_result.ensures _ (program_length _ _) c.requires.result_rows) refl
     c.mark_entering-into.ensures c.mark_returning-back.ensures
 
 pub returns-in-Call : goal.returns-in-Call

@@ -12,7 +12,7 @@ loop-q-init c = (omega arith, (refl, follows_none _ (λ r s lr ls. refl)))
 
 pub loop-q-preserved : goal.loop-q-preserved
 unfolding any_row
-loop-q-preserved c = (omega arith, (c.mark_row-more.ensures.kept.same_length ∙ c.loop-q.invariant.1.0, follows_next (λ q r s. row_steps _ _ q r s) _ _ _ c.larger-changed.ensures c.loop-q.invariant.1.1 c.mark_row-more.ensures))
+loop-q-preserved c = (omega arith, (c.mark_row-changed.ensures.kept.same_length ∙ c.loop-q.invariant.1.0, follows_next (λ q r s. row_steps _ _ q r s) _ _ _ refl c.loop-q.invariant.1.1 c.mark_row-changed.ensures))
 
 pub returns : goal.returns
 returns c = follows_edges _ _ _ _ (omega arith) c.loop-q.invariant.1.1

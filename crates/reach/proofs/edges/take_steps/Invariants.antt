@@ -1,5 +1,5 @@
--- The loop's invariant: the steps that the rows below q give are taken. The measure is what is left of the rows.
-use Prim.Native.Nat.{◌≤◌, ◌-◌}
+-- The loop's invariant: the steps that the rows below q give are taken.
+use Prim.Native.Nat.{◌≤◌}
 use mathlib.Core.Path.{◌≡◌}
 use lib.ListN.{length}
 use Rattle.store.specs.Rows.{store_program}
@@ -11,6 +11,3 @@ use Rattle.reach.proofs.edges.take_steps.Given as goal
 abbrev pub invariant-loop-q : goal.invariant-loop-q
 invariant-loop-q l =
     (l.q ≤ l.rows) × ((length l.grid ≡ length l.initial.grid) × Follows l.rows (any_row (store_program l.rows l.store) (store_flow l.store) l.q) l.initial.grid l.grid l.changed)
-
-abbrev pub decreases-loop-q : goal.decreases-loop-q
-decreases-loop-q l = l.rows - l.q
