@@ -14,7 +14,7 @@ pub fn put_argument(out: &mut [u8], at: usize, n: u16) -> usize
     requires { Room out.old at (argument n) }
     ensures { Wrote out.old at (argument n) result out.new }
 {
-    let p = put_byte(out, at, 32);
+    let p = put_byte(out, at, b' ');
     put_number(out, p, n)
 }
 
@@ -25,5 +25,5 @@ pub fn put_head(out: &mut [u8], at: usize, word: &[u8], n: u16) -> usize
 {
     let p = put_word(out, at, word);
     let q = put_argument(out, p, n);
-    put_byte(out, q, 32)
+    put_byte(out, q, b' ')
 }
