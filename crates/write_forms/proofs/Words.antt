@@ -1,33 +1,31 @@
--- The text of a form by its kind: the kind's word, which stands in a table, as many numbers as the kind has, and a bracket.
-use Prim.Native.Nat.{ℕ, ◌+◌, ◌-◌, ◌<◌, ◌≤◌}
+-- The text of a form by its kind: the kind's word, as many numbers as the kind has, and a bracket.
+use Prim.Native.Nat.{ℕ, ◌≤◌}
 use native.Mathlib.Omega.{arith}
 use native.Mathlib.Decide.{dec_lt, ℕ_discrete}
 use mathlib.Core.Bool.{false, So, not, ◌||◌, false≢true}
 use mathlib.Core.List.{List, [], ◌∷◌, ◌++◌}
-use mathlib.Core.Path.{◌≡◌, refl}
-use lib.ListN.{length, get_or, take, drop}
-use lib.Dec.{eqb, ltb, leb}
-use borrow.Author.Tests.{eq-eqb, ne_eqb, lt-ltb, le-ltb, leb-true}
+use mathlib.Core.Path.{◌≡◌, refl, sym, ◌∙◌}
+use denote.Bor.{Bor}
+use lib.ListN.{length, get_or, take, get_or-map}
+use lib.Dec.{eqb, ltb}
+use borrow.Author.Tests.{eq-eqb, ne_eqb, lt-ltb, le-ltb}
 use Rattle.program.specs.Test.{all}
 use Rattle.program.proofs.Test.{all_elim}
 use Rattle.format.specs.Text.{Bytes, ascii, arguments}
 use Rattle.format.specs.Forms.{arity, form_of}
 use Rattle.format.specs.Print.{form_word, form_numbers, form_text}
-use Rattle.write_bytes.specs.Write.{Room, Wrote}
 use Rattle.kinds.specs.Kinds.{form_place}
 use Rattle.write_forms.specs.Texts.{kind_word}
 
--- ---- the words, one after the other, and where each begins
+-- ---- the words, by the places of their kinds
 
-abbrev pub words : Bytes
-words = ascii "[unit[chan[send[recv[pair[left[right[fun[spawn[sync[first[second[case[apply"
+abbrev pub words : List Bytes
+words =
+    ascii "[unit" ∷ ascii "[chan" ∷ ascii "[send" ∷ ascii "[recv" ∷ ascii "[pair" ∷ ascii "[left" ∷ ascii "[right" ∷ ascii "[fun" ∷ ascii "[spawn" ∷ ascii "[sync"
+    ∷ ascii "[first" ∷ ascii "[second" ∷ ascii "[case" ∷ ascii "[apply" ∷ []
 
-abbrev pub starts : List ℕ
-starts = 0 ∷ 5 ∷ 10 ∷ 15 ∷ 20 ∷ 25 ∷ 30 ∷ 36 ∷ 40 ∷ 46 ∷ 51 ∷ 57 ∷ 64 ∷ 69 ∷ 75 ∷ []
-
--- the word at a place, as the code cuts it out
 abbrev pub word_at : ℕ → Bytes
-word_at p = take (get_or starts (p + 1) 0 - get_or starts p 0) (drop (get_or starts p 0) words)
+word_at p = get_or words p []
 
 -- ---- what holds of each kind
 
@@ -96,19 +94,28 @@ form_text_lem k ns h = rw (five ns h) (every_kind k (get_or ns 0 0) (get_or ns 1
 pub word_is : (k : ℕ) → word_at (form_place k) ≡ kind_word k
 word_is k = (every_kind k 0 0 0 0 0).word
 
--- a word's part of the table lies inside it
-pub part_inside : (p : ℕ) → p < 14 → (get_or starts p 0 ≤ get_or starts (p + 1) 0) × (get_or starts (p + 1) 0 ≤ length words)
-unfolding all ascii
-part_inside p h =
-    let rises = all_elim 14 (λ p. leb (get_or starts p 0) (get_or starts (p + 1) 0)) refl p h in
-    let ends = all_elim 14 (λ p. leb (get_or starts (p + 1) 0) 75) refl p h in
-    (leb-true _ _ rises, leb-true _ _ ends)
+-- the same, of references to the words, wherever these stand
+module _ (a b c d e f g h i j l m n o none : ℕ × ℕ) where
+  abbrev there : List (Bor Bytes)
+  there =
+      record { ref_ptr = a; now = ascii "[unit" }
+      ∷ record { ref_ptr = b; now = ascii "[chan" }
+      ∷ record { ref_ptr = c; now = ascii "[send" }
+      ∷ record { ref_ptr = d; now = ascii "[recv" }
+      ∷ record { ref_ptr = e; now = ascii "[pair" }
+      ∷ record { ref_ptr = f; now = ascii "[left" }
+      ∷ record { ref_ptr = g; now = ascii "[right" }
+      ∷ record { ref_ptr = h; now = ascii "[fun" }
+      ∷ record { ref_ptr = i; now = ascii "[spawn" }
+      ∷ record { ref_ptr = j; now = ascii "[sync" }
+      ∷ record { ref_ptr = l; now = ascii "[first" }
+      ∷ record { ref_ptr = m; now = ascii "[second" }
+      ∷ record { ref_ptr = n; now = ascii "[case" }
+      ∷ record { ref_ptr = o; now = ascii "[apply" }
+      ∷ []
 
-pub word_room : (k : ℕ) {l : Bytes} {i : ℕ} → Room l i (kind_word k) → Room l i (word_at (form_place k))
-word_room k r = rw (word_is k) r
-
-pub word_wrote : (k : ℕ) {l m : Bytes} {i j : ℕ} → Wrote l i (word_at (form_place k)) j m → Wrote l i (kind_word k) j m
-word_wrote k w = rw (word_is k) at w
+  pub word_there : (k p : ℕ) → p ≡ form_place k → (get_or there p (record { ref_ptr = none; now = [] })).now ≡ kind_word k
+  word_there k p q = sym (get_or-map (λ (w : Bor Bytes). w.now) there p (record { ref_ptr = none; now = [] })) ∙ rw q (word_is k)
 
 pub arity_few : (k : ℕ) → arity k ≤ 5
 arity_few k = (every_kind k 0 0 0 0 0).few

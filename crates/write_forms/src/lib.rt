@@ -1,7 +1,7 @@
 // Forms, written into a slice at a position by their kind and their numbers.
 #![tactic(auto)]
 
-ghost use Rattle.std.specs.Prelude.{◌≡◌, ◌≤◌, ◌-◌, length, take, drop};
+ghost use Rattle.std.specs.Prelude.{◌≡◌, length};
 ghost use Rattle.format.specs.Text.{arguments};
 ghost use Rattle.format.specs.Forms.{form_of};
 ghost use Rattle.format.specs.Print.{form_text};
@@ -16,41 +16,22 @@ fn put_arguments(out: &mut [u8], at: usize, numbers: &[u8]) -> usize
     ensures { Wrote out.old at (arguments numbers.now) result out.new }
 {
     let mut next = at;
-    let mut i = 0;
-    while i < numbers.len() {
-        let n = numbers[i] as u16;
-        next = write_text::put_argument(out, next, n);
-        i += 1;
+    for &n in numbers {
+        next = write_text::put_argument(out, next, n as u16);
     }
     next
 }
 
-// Writes a part of a text.
-fn put_part(out: &mut [u8], at: usize, text: &[u8], from: usize, to: usize) -> usize
-    requires from_le_to { (from ≤ to) × (to ≤ length text.now) }
-    requires room { Room out.old at (take (to - from) (drop from text.now)) }
-    ensures { Wrote out.old at (take (to - from) (drop from text.now)) result out.new }
+// The word of a kind, with the bracket before it.
+#[tactic(auto, using(kinds::proofs::Counts::place_below), unfolding(format::specs::Text::ascii))]
+fn kind_word(kind: u8) -> &'static [u8]
+    ensures { result.now ≡ kind_word kind }
 {
-    write_text::put_word(out, at, &text[from..to])
-}
-
-// Writes the word of a kind, with the bracket before it.
-#[tactic(auto, unfolding(format::specs::Text::ascii))]
-fn put_kind(out: &mut [u8], at: usize, kind: u8) -> usize
-    requires { Room out.old at (kind_word kind) }
-    ensures { Wrote out.old at (kind_word kind) result out.new }
-{
-    let starts = [0, 5, 10, 15, 20, 25, 30, 36, 40, 46, 51, 57, 64, 69, 75];
-    let p = form_place(kind);
-    let from = starts[p];
-    let to = starts[p + 1];
-    put_part(
-        out,
-        at,
-        b"[unit[chan[send[recv[pair[left[right[fun[spawn[sync[first[second[case[apply",
-        from,
-        to,
-    )
+    let words: [&[u8]; 14] = [
+        b"[unit", b"[chan", b"[send", b"[recv", b"[pair", b"[left", b"[right", b"[fun", b"[spawn",
+        b"[sync", b"[first", b"[second", b"[case", b"[apply",
+    ];
+    words[form_place(kind)]
 }
 
 // Writes the form of a kind and five numbers, of which it holds the first.
@@ -61,7 +42,7 @@ pub fn put_form(out: &mut [u8], at: usize, kind: u8, numbers: &[u8]) -> usize
     ensures { Wrote out.old at (form_text (form_of kind numbers.now)) result out.new }
 {
     let count = arity(kind);
-    let p = put_kind(out, at, kind);
+    let p = write_text::put_word(out, at, kind_word(kind));
     let q = put_arguments(out, p, &numbers[..count]);
-    write_text::put_byte(out, q, 93)
+    write_text::put_byte(out, q, b']')
 }

@@ -21,7 +21,7 @@ fn put_result(out: &mut [u8], at: usize, name: u8) -> usize
 {
     let p = write_text::put_word(out, at, b"[result");
     let q = write_text::put_argument(out, p, name as u16);
-    write_text::put_byte(out, q, 93)
+    write_text::put_byte(out, q, b']')
 }
 
 // Writes a row.
@@ -39,7 +39,7 @@ fn put_row(out: &mut [u8], at: usize, row: &[u8]) -> usize
     let p = write_text::put_head(out, at, b"[bind", name as u16);
     let q = put_form(out, p, kind, &row[3..]);
     let s = write_text::put_argument(out, q, rest as u16);
-    write_text::put_byte(out, s, 93)
+    write_text::put_byte(out, s, b']')
 }
 
 // Writes the line of row r.
@@ -60,12 +60,10 @@ pub fn put_rows(out: &mut [u8], at: usize, store: &[u8], rows: u8) -> usize
     ensures { Wrote out.old at (collect line_text (row_lines 0 (store_program rows store.now))) result out.new }
 {
     let mut next = at;
-    let mut r = 0;
-    while r < rows {
+    for r in 0..rows {
         let from = r as usize * Store::ROW_SIZE;
         let to = from + Store::ROW_SIZE;
         next = put_row_line(out, next, r, &store[from..to]);
-        r += 1;
     }
     next
 }

@@ -7,9 +7,9 @@ use Rattle.write_bytes.proofs.Writing.{then, room_first, room_then}
 use Rattle.write_forms.proofs.Words.{form_text_lem, arity_few}
 use Rattle.write_forms.proofs.put_form.Goals as goal
 
-pub put_kind-p-requires : goal.put_kind-p-requires
-put_kind-p-requires c =
-    room_first _ _ (rw (form_text_lem c.args.kind c.args.numbers.now c.requires.numbers_len) at c.requires.room)
+pub put_word-p-requires : goal.put_word-p-requires
+put_word-p-requires c =
+    rw c.kind_word.ensures (room_first _ _ (rw (form_text_lem c.args.kind c.args.numbers.now c.requires.numbers_len) at c.requires.room))
 
 pub slice_bounds-put_arguments-end : goal.slice_bounds-put_arguments-end
 slice_bounds-put_arguments-end c =
@@ -17,16 +17,16 @@ slice_bounds-put_arguments-end c =
 
 pub put_arguments-q-requires : goal.put_arguments-q-requires
 put_arguments-q-requires c =
-    rw c.arity-count.ensures (room_first _ _ (room_then _ c.put_kind-p.ensures (rw (form_text_lem c.args.kind c.args.numbers.now c.requires.numbers_len) at c.requires.room)))
+    rw c.arity-count.ensures (room_first _ _ (room_then _ (rw c.kind_word.ensures at c.put_word-p.ensures) (rw (form_text_lem c.args.kind c.args.numbers.now c.requires.numbers_len) at c.requires.room)))
 
 pub put_byte-requires : goal.put_byte-requires
 unfolding ascii
 put_byte-requires c =
     room_then _ (rw c.arity-count.ensures at c.put_arguments-q.ensures)
-    (room_then _ c.put_kind-p.ensures (rw (form_text_lem c.args.kind c.args.numbers.now c.requires.numbers_len) at c.requires.room))
+    (room_then _ (rw c.kind_word.ensures at c.put_word-p.ensures) (rw (form_text_lem c.args.kind c.args.numbers.now c.requires.numbers_len) at c.requires.room))
 
 pub returns : goal.returns
 unfolding ascii
 returns c =
     rw (form_text_lem c.args.kind c.args.numbers.now c.requires.numbers_len)
-    (then c.put_kind-p.ensures (then (rw c.arity-count.ensures at c.put_arguments-q.ensures) c.put_byte.ensures))
+    (then (rw c.kind_word.ensures at c.put_word-p.ensures) (then (rw c.arity-count.ensures at c.put_arguments-q.ensures) c.put_byte.ensures))

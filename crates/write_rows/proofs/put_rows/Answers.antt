@@ -5,19 +5,19 @@ use Rattle.write_rows.proofs.Parts.{rows_all, rows_next, rows_end, part_length}
 use Rattle.write_rows.proofs.put_rows.Goals as goal
 
 pub loop-r-init : goal.loop-r-init
-loop-r-init c = (omega arith, same_rest (rows_all _ _) (begin c.requires.room))
+loop-r-init c = same_rest (rows_all _ _) (begin c.requires.room)
 
 pub put_row_line-next-requires : goal.put_row_line-next-requires
 put_row_line-next-requires c =
     record {
-      x_len = part_length c.args.store.now c.loop-r.r (omega (arith, c.ranges.rows.fits, c.loop-r-test.true)) c.requires.store_size_in_bounds;
+      x_len = part_length c.args.store.now c.loop-r.r (omega arith) c.requires.store_size_in_bounds;
       room = room_first _ _
-          (room_left (same_rest (rows_next _ _ _ c.loop-r-test.true) c.loop-r.invariant.1));
+          (room_left (same_rest (rows_next _ _ _ c.loop-r-test.true) c.loop-r.invariant));
     }
 
 pub loop-r-preserved : goal.loop-r-preserved
 loop-r-preserved c =
-    (omega arith, onward (same_rest (rows_next _ _ _ c.loop-r-test.true) c.loop-r.invariant.1) c.put_row_line-next.ensures)
+    onward (same_rest (rows_next _ _ _ c.loop-r-test.true) c.loop-r.invariant) c.put_row_line-next.ensures
 
 pub returns : goal.returns
-returns c = finished (same_rest (rows_end _ _ _ c.loop-r-test.false) c.loop-r.invariant.1)
+returns c = finished (same_rest (rows_end _ _ _ c.loop-r-test.false) c.loop-r.invariant)
