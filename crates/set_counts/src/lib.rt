@@ -6,20 +6,18 @@ ghost use Rattle.format.specs.Limits.{row_limit};
 ghost use Rattle.format.specs.Read.{present};
 ghost use Rattle.calls.specs.Layout.{sets_size, members_from, decode_sets};
 
-use byte_order::larger;
 use store::Store;
 
 // Whether a set has a member. Every byte is looked at, so that the loop takes many at a time.
+#[tactic(auto, using(crate::proofs::Members::found_start, crate::proofs::Members::found_more, crate::proofs::Members::found_end))]
 pub fn has_member(flags: &[u8]) -> bool
     ensures { result ≡ present (members_from 0 flags.now) }
 {
-    let mut found = 0;
-    let mut i = 0;
-    while i < flags.len() {
-        found = larger(found, flags[i]);
-        i += 1;
+    let mut most = 0;
+    for &b in flags {
+        most = most.max(b);
     }
-    0 < found
+    0 < most
 }
 
 // How many of these sets have a member, and so a line.
@@ -28,14 +26,11 @@ pub fn count_sets(sets: &[u8]) -> usize
     ensures { result ≡ length (decode_sets row_limit 0 sets.now) }
 {
     let mut lines = 0;
-    let mut k = 0;
-    while k < Store::ROWS {
+    for k in 0..Store::ROWS {
         let start = k * Store::MEMBERS;
         let end = start + Store::MEMBERS;
-        k += 1;
         if has_member(&sets[start..end]) {
             lines += 1;
-            continue;
         }
     }
     lines

@@ -20,29 +20,25 @@ fn put_member(out: &mut [u8], at: usize, m: usize) -> usize
     ensures { Wrote out.old at (member_text m) result out.new }
 {
     if m == 0 {
-        return write_text::put_byte(out, at, 117);
+        return write_text::put_byte(out, at, b'u');
     }
     let row = (m - 1) as u16;
     write_text::put_number(out, at, row)
 }
 
 // How many bytes are passed over from byte m on, which is 0: sixteen where it begins a block of sixteen that are 0, else one.
+#[tactic(auto, using(crate::proofs::Members::passes_one, crate::proofs::Members::passes_block))]
 fn passed(flags: &[u8], m: usize) -> usize
     requires m_in_bounds { (m < length flags.now) × (byte_at flags.now m ≡ 0) }
     requires flags_len_bound { length flags.now ≤ 65536 }
     ensures { Passes flags.now m result }
 {
-    if m % 16 != 0 {
-        return 1;
-    }
     let end = m + 16;
-    if flags.len() < end {
-        return 1;
+    if m % 16 == 0 && end <= flags.len() && !has_member(&flags[m..end]) {
+        16
+    } else {
+        1
     }
-    if has_member(&flags[m..end]) {
-        return 1;
-    }
-    16
 }
 
 // Writes a set that has a member. Blocks of sixteen bytes that are 0 are passed over at once.
@@ -53,8 +49,9 @@ pub fn put_set(out: &mut [u8], at: usize, flags: &[u8]) -> usize
     ensures { Wrote out.old at (set_text (members_from 0 flags.now)) result out.new }
 {
     let mut next = at;
-    let mut sep = 91;
+    let mut sep = b'[';
     let mut m = 0;
+    // A step passes over one byte or sixteen, so m is no counter of a `for`.
     while m < flags.len() {
         if flags[m] == 0 {
             let k = passed(flags, m);
@@ -63,8 +60,8 @@ pub fn put_set(out: &mut [u8], at: usize, flags: &[u8]) -> usize
         }
         let p = write_text::put_byte(out, next, sep);
         next = put_member(out, p, m);
-        sep = 32;
+        sep = b' ';
         m += 1;
     }
-    write_text::put_byte(out, next, 93)
+    write_text::put_byte(out, next, b']')
 }

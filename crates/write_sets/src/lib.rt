@@ -36,17 +36,13 @@ pub fn put_sets(out: &mut [u8], at: usize, word: &[u8], sets: &[u8], keys: &[u8]
     ensures { Wrote out.old at (collect (entry_text word.now) (decode_sets row_limit 0 sets.now)) result out.new }
 {
     let mut next = at;
-    let mut n = 0;
-    while n < Store::ROWS {
+    for n in 0..Store::ROWS {
         if keys[n] == 0 {
-            n += 1;
             continue;
         }
         let from = n * Store::MEMBERS;
         let to = from + Store::MEMBERS;
-        let key = n as u16;
-        next = put_set_line(out, next, word, key, &sets[from..to]);
-        n += 1;
+        next = put_set_line(out, next, word, n as u16, &sets[from..to]);
     }
     next
 }

