@@ -16,17 +16,17 @@ pub put_head-p-requires : goal.put_head-p-requires
 unfolding line_text ascii
 put_head-p-requires c = room_head _ _ _ (rw (one_claim _ _ c.if-code-eq0.false) at c.requires)
 
-pub put_claim_word-q-requires : goal.put_claim_word-q-requires
+pub put_word-q-requires : goal.put_word-q-requires
 unfolding line_text ascii
-put_claim_word-q-requires c =
-    room_first _ _ (room_behind _ _ _ c.put_head-p.ensures (rw (one_claim _ _ c.if-code-eq0.false) at c.requires))
+put_word-q-requires c =
+    rw (c.word_text.ensures, c.word_of.ensures) (room_first _ _ (room_behind _ _ _ c.put_head-p.ensures (rw (one_claim _ _ c.if-code-eq0.false) at c.requires)))
 
 pub put_word-requires : goal.put_word-requires
 unfolding line_text ascii
 put_word-requires c =
-    room_then _ c.put_claim_word-q.ensures (room_behind _ _ _ c.put_head-p.ensures (rw (one_claim _ _ c.if-code-eq0.false) at c.requires))
+    room_then _ (rw (c.word_text.ensures, c.word_of.ensures) at c.put_word-q.ensures) (room_behind _ _ _ c.put_head-p.ensures (rw (one_claim _ _ c.if-code-eq0.false) at c.requires))
 
 pub returns : goal.returns
 unfolding line_text ascii
 returns c =
-    rw (one_claim _ _ c.if-code-eq0.false) (then_behind _ _ _ c.put_head-p.ensures (then c.put_claim_word-q.ensures c.put_word.ensures))
+    rw (one_claim _ _ c.if-code-eq0.false) (then_behind _ _ _ c.put_head-p.ensures (then (rw (c.word_text.ensures, c.word_of.ensures) at c.put_word-q.ensures) c.put_word.ensures))
