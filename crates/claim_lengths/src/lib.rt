@@ -6,21 +6,24 @@ ghost use Rattle.program.specs.Each.{collect};
 ghost use Rattle.format.specs.Text.{ascii};
 ghost use Rattle.format.specs.Document.{claim};
 ghost use Rattle.format.specs.Print.{word_text, line_text};
-ghost use Rattle.calls.specs.Layout.{word_of, decode_claims};
+ghost use Rattle.calls.specs.Layout.{decode_claims};
 
+use claim_words::word_of;
 use number_lengths::argument_length;
+use program::Word;
 
-// The length of the word of a code.
-fn word_length(code: u8) -> usize
-    ensures { result ≡ length (ascii (word_text (word_of code))) }
+// The length of the word of a claim.
+#[tactic(auto, unfolding(format::specs::Print::word_text, format::specs::Text::ascii))]
+fn word_length(word: Word) -> usize
+    ensures { result ≡ length (ascii (word_text word)) }
 {
-    match code {
-        1 => 8,
-        2 => 10,
-        3 => 7,
-        4 => 6,
-        6 => 8,
-        _ => 4,
+    match word {
+        Word::OneShot => 8,
+        Word::OneToOne => 10,
+        Word::FanOut => 7,
+        Word::FanIn => 6,
+        Word::Many => 4,
+        Word::OneSync => 8,
     }
 }
 
@@ -33,7 +36,7 @@ fn claim_length(c: u8, code: u8) -> usize
         return 0;
     }
     let number = argument_length(c);
-    let word = word_length(code);
+    let word = word_length(word_of(code));
     number + word + 9
 }
 
@@ -44,12 +47,8 @@ pub fn claims_length(codes: &[u8]) -> usize
     ensures { result ≡ length (collect line_text (map claim (decode_claims 0 codes.now))) }
 {
     let mut total = 0;
-    let mut c = 0;
-    while c < codes.len() {
-        let row = c as u8;
-        let line = claim_length(row, codes[c]);
-        total += line;
-        c += 1;
+    for c in 0..codes.len() {
+        total += claim_length(c as u8, codes[c]);
     }
     total
 }

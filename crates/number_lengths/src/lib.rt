@@ -9,11 +9,9 @@ ghost use Rattle.format.specs.Text.{argument};
 pub fn argument_length(n: u8) -> usize
     ensures { result ≡ length (argument n) }
 {
-    if n < 10 {
-        return 2;
+    match n {
+        0..=9 => 2,
+        10..=99 => 3,
+        _ => 4,
     }
-    if n < 100 {
-        return 3;
-    }
-    4
 }

@@ -1,4 +1,5 @@
 // How long the lines of rows are, by their kinds and numbers; nothing is written. A row is read as it stands in the store: its kind, its name, its rest and five numbers.
+// These stand beside the writers, and are not one function with them: a text that is written only for its length is made twice.
 #![tactic(auto)]
 
 ghost use Rattle.std.specs.Prelude.{◌≡◌, ◌≤◌, length};
@@ -22,16 +23,13 @@ fn arguments_length(numbers: &[u8]) -> usize
     ensures { result ≡ length (arguments numbers.now) }
 {
     let mut total = 0;
-    let mut i = 0;
-    while i < numbers.len() {
-        let n = argument_length(numbers[i]);
-        total += n;
-        i += 1;
+    for &n in numbers {
+        total += argument_length(n);
     }
     total
 }
 
-// The length of the word of a kind, with the bracket before it.
+// The length of the word of a kind, with the bracket before it; told by the kind's place, as its word is.
 #[tactic(auto, using(kinds::proofs::Counts::place_below, crate::proofs::Rows::word_length))]
 fn kind_length(kind: u8) -> usize
     ensures { result ≡ length (kind_word kind) }
@@ -81,18 +79,16 @@ fn row_line_length(r: u8, x: &[u8]) -> usize
 }
 
 // The length of the lines of the first rows of a store.
+#[tactic(auto, using(number_lengths::proofs::Sums::onward, number_lengths::proofs::Sums::within, number_lengths::proofs::Sums::finished, crate::proofs::Rows::lines_all, crate::proofs::Rows::lines_next, crate::proofs::Rows::lines_end, crate::proofs::Rows::rows_short))]
 pub fn rows_length(store: &[u8], rows: u8) -> usize
     requires { store_size ≤ length store.now }
     ensures { result ≡ length (collect line_text (row_lines 0 (store_program rows store.now))) }
 {
     let mut total = 0;
-    let mut r = 0;
-    while r < rows {
+    for r in 0..rows {
         let from = r as usize * Store::ROW_SIZE;
         let to = from + Store::ROW_SIZE;
-        let line = row_line_length(r, &store[from..to]);
-        total += line;
-        r += 1;
+        total += row_line_length(r, &store[from..to]);
     }
     total
 }

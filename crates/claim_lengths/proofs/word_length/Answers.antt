@@ -1,30 +1,28 @@
--- In each arm the word of the code computes.
+-- In each arm the text of the word computes.
 use Rattle.format.specs.Text.{ascii}
 use Rattle.format.specs.Print.{word_text}
-use Rattle.calls.specs.Layout.{word_of}
-use Rattle.calls.proofs.Codec.Claims.{word_other}
 use Rattle.claim_lengths.proofs.word_length.Goals as goal
 
-pub returns-in-1 : goal.returns-in-1
-unfolding ascii word_text word_of
-returns-in-1 c = rw c.in-1.is
+pub returns-in-OneShot : goal.returns-in-OneShot
+unfolding ascii word_text
+returns-in-OneShot c = rw c.in-OneShot.is
 
-pub returns-in-2 : goal.returns-in-2
-unfolding ascii word_text word_of
-returns-in-2 c = rw c.in-2.is
+pub returns-in-OneToOne : goal.returns-in-OneToOne
+unfolding ascii word_text
+returns-in-OneToOne c = rw c.in-OneToOne.is
 
-pub returns-in-3 : goal.returns-in-3
-unfolding ascii word_text word_of
-returns-in-3 c = rw c.in-3.is
+pub returns-in-FanOut : goal.returns-in-FanOut
+unfolding ascii word_text
+returns-in-FanOut c = rw c.in-FanOut.is
 
-pub returns-in-4 : goal.returns-in-4
-unfolding ascii word_text word_of
-returns-in-4 c = rw c.in-4.is
+pub returns-in-FanIn : goal.returns-in-FanIn
+unfolding ascii word_text
+returns-in-FanIn c = rw c.in-FanIn.is
 
-pub returns-in-6 : goal.returns-in-6
-unfolding ascii word_text word_of
-returns-in-6 c = rw c.in-6.is
+pub returns-in-Many : goal.returns-in-Many
+unfolding ascii word_text
+returns-in-Many c = rw c.in-Many.is
 
-pub returns-in_default : goal.returns-in_default
-unfolding ascii word_text word_of
-returns-in_default c = rw (word_other _ c.in_default.in_default-own.rest.0.0.0.0.1 c.in_default.in_default-own.rest.0.0.0.1 c.in_default.in_default-own.rest.0.0.1 c.in_default.in_default-own.rest.0.1 c.in_default.in_default-own.rest.1)
+pub returns-in-OneSync : goal.returns-in-OneSync
+unfolding ascii word_text
+returns-in-OneSync c = rw c.in-OneSync.is

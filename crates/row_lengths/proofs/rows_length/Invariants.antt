@@ -1,12 +1,7 @@
--- The loop's invariant: of the length, that of the lines from row r on is left. The rows left get fewer, so the loop ends.
-use Prim.Native.Nat.{◌≤◌, ◌-◌}
+-- The loop's invariant: of the length, that of the lines from row r on is left.
 use Rattle.number_lengths.proofs.Sums.{Counted}
 use Rattle.row_lengths.proofs.Rows.{rows_from}
 use Rattle.row_lengths.proofs.rows_length.Given as goal
 
 abbrev pub invariant-loop-r : goal.invariant-loop-r
-invariant-loop-r l =
-    (l.r ≤ l.rows) × Counted (rows_from l.rows 0 l.store) l.total (rows_from l.rows l.r l.store)
-
-abbrev pub decreases-loop-r : goal.decreases-loop-r
-decreases-loop-r l = l.rows - l.r
+invariant-loop-r l = Counted (rows_from l.rows 0 l.store) l.total (rows_from l.rows l.r l.store)
