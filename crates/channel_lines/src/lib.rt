@@ -21,12 +21,11 @@ fn put_row(out: &mut [u8], at: usize, store: &[u8], rows: u8, grid: &[u8], row: 
     requires room { Room out.old at (channel_line (decode store.now) row) }
     ensures { Wrote out.old at (channel_line (decode store.now) row) result out.new }
 {
-    if forms::is_chan(store, rows, row) {
-        let told = verdicts::words(store, rows, grid, row);
-        let number = row as u16;
-        return put_channel(out, at, number, told[0], told[1], told[2], told[3], told[4]);
+    if !forms::is_chan(store, rows, row) {
+        return at;
     }
-    at
+    let told = verdicts::words(store, rows, grid, row);
+    put_channel(out, at, row as u16, told)
 }
 
 // Writes the lines of the chan rows, rows rising.
@@ -37,10 +36,8 @@ pub fn put_channels(out: &mut [u8], at: usize, store: &[u8], rows: u8, grid: &[u
     ensures { Wrote out.old at (channel_lines (decode store.now)) result out.new }
 {
     let mut next = at;
-    let mut row = 0;
-    while row < rows {
+    for row in 0..rows {
         next = put_row(out, next, store, rows, grid, row);
-        row += 1;
     }
     next
 }

@@ -1,7 +1,7 @@
 // The lines of a report, written at a position.
 #![tactic(auto)]
 
-ghost use Rattle.std.specs.Prelude.{[], ◌∷◌, ◌<◌};
+ghost use Rattle.std.specs.Prelude.{◌∷◌, ◌<◌};
 ghost use Rattle.write_bytes.specs.Write.{Room, Wrote};
 ghost use Rattle.report.specs.Report.{refused_text, accepted_text, yes_no_text, words_text, channel_text};
 
@@ -15,8 +15,7 @@ pub fn put_refused(out: &mut [u8], at: usize, refusal: Refusal) -> usize
     ensures { Wrote out.old at (refused_text refusal) result out.new }
 {
     let line = refusal.line as u16;
-    let reason = refusal.reason;
-    let code = refusal_numbers::number(reason) as u16;
+    let code = refusal_numbers::number(refusal.reason) as u16;
     let p = write_text::put_word(out, at, b"[refused");
     let q = write_text::put_argument(out, p, code);
     let r = write_text::put_argument(out, q, line);
@@ -42,48 +41,32 @@ fn put_yes_no(out: &mut [u8], at: usize, before: u8, word: bool) -> usize
 {
     let p = write_text::put_byte(out, at, before);
     if word {
-        return write_text::put_word(out, p, b"yes");
+        write_text::put_word(out, p, b"yes")
+    } else {
+        write_text::put_word(out, p, b"no")
     }
-    write_text::put_word(out, p, b"no")
 }
 
 // Writes `[yes no ..]`.
-#[tactic(auto, using(write_bytes::proofs::Writing::room_first, write_bytes::proofs::Writing::room_then), unfolding(report::specs::Report::words_text, report::specs::Report::more_words_text, format::specs::Text::ascii))]
-fn put_words(
-    out: &mut [u8],
-    at: usize,
-    oneshot: bool,
-    onetoone: bool,
-    fanout: bool,
-    fanin: bool,
-    onesync: bool,
-) -> usize
-    requires { Room out.old at (words_text (oneshot ∷ onetoone ∷ fanout ∷ fanin ∷ onesync ∷ [])) }
-    ensures { Wrote out.old at (words_text (oneshot ∷ onetoone ∷ fanout ∷ fanin ∷ onesync ∷ [])) result out.new }
+fn put_words(out: &mut [u8], at: usize, words: [bool; 5]) -> usize
+    requires { Room out.old at (words_text words) }
+    ensures { Wrote out.old at (words_text words) result out.new }
 {
-    let p = put_yes_no(out, at, 91, oneshot);
-    let q = put_yes_no(out, p, 32, onetoone);
-    let r = put_yes_no(out, q, 32, fanout);
-    let s = put_yes_no(out, r, 32, fanin);
-    let t = put_yes_no(out, s, 32, onesync);
-    write_text::put_byte(out, t, 93)
+    let mut next = at;
+    let mut before = b'[';
+    for word in words {
+        next = put_yes_no(out, next, before, word);
+        before = b' ';
+    }
+    write_text::put_byte(out, next, b']')
 }
 
 // Writes `[channel R [yes no ..]]`.
-pub fn put_channel(
-    out: &mut [u8],
-    at: usize,
-    row: u16,
-    oneshot: bool,
-    onetoone: bool,
-    fanout: bool,
-    fanin: bool,
-    onesync: bool,
-) -> usize
-    requires { Room out.old at (channel_text row (oneshot ∷ onetoone ∷ fanout ∷ fanin ∷ onesync ∷ [])) }
-    ensures { Wrote out.old at (channel_text row (oneshot ∷ onetoone ∷ fanout ∷ fanin ∷ onesync ∷ [])) result out.new }
+pub fn put_channel(out: &mut [u8], at: usize, row: u16, words: [bool; 5]) -> usize
+    requires { Room out.old at (channel_text row words) }
+    ensures { Wrote out.old at (channel_text row words) result out.new }
 {
     let p = write_text::put_head(out, at, b"[channel", row);
-    let q = put_words(out, p, oneshot, onetoone, fanout, fanin, onesync);
+    let q = put_words(out, p, words);
     write_text::put_word(out, q, b"]\n")
 }

@@ -1,5 +1,4 @@
--- The loop's invariant: of the text, the lines of the rows from `row` on are left. The rows left get fewer, so the loop ends.
-use Prim.Native.Nat.{◌≤◌, ◌-◌}
+-- The loop's invariant: of the text, the lines of the rows from `row` on are left.
 use Rattle.program.specs.Each.{collect}
 use Rattle.calls.specs.Layout.{decode}
 use Rattle.report.specs.Report.{channel_line, channel_lines}
@@ -9,7 +8,4 @@ use Rattle.channel_lines.proofs.put_channels.Given as goal
 
 abbrev pub invariant-loop-row : goal.invariant-loop-row
 invariant-loop-row l =
-    (l.row ≤ l.rows) × Progress l.initial.out l.at (channel_lines (decode l.store)) l.out l.next (collect (channel_line (decode l.store)) (rows_from l.rows l.row))
-
-abbrev pub decreases-loop-row : goal.decreases-loop-row
-decreases-loop-row l = l.rows - l.row
+    Progress l.initial.out l.at (channel_lines (decode l.store)) l.out l.next (collect (channel_line (decode l.store)) (rows_from l.rows l.row))

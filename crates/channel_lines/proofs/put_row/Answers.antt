@@ -15,14 +15,14 @@ words-told-requires c =
 pub put_channel-requires : goal.put_channel-requires
 put_channel-requires c =
     let (size, counted, big) = c.requires.store_size_in_bounds in
-    rw c.words-told.ensures (rw (channel_line_lem _ _ counted _ (sym c.is_chan.ensures ∙ c.if-is_chan.true)) at c.requires.room)
+    rw c.words-told.ensures (rw (channel_line_lem _ _ counted _ (sym c.is_chan.ensures ∙ c.if-not-is_chan.false)) at c.requires.room)
 
-pub returns-then-is_chan : goal.returns-then-is_chan
-returns-then-is_chan c =
+pub returns-then-not-is_chan : goal.returns-then-not-is_chan
+returns-then-not-is_chan c =
     let (size, counted, big) = c.requires.store_size_in_bounds in
-    rw (channel_line_lem _ _ counted _ (sym c.is_chan.ensures ∙ c.if-is_chan.true)) (rw c.words-told.ensures at c.put_channel.ensures)
+    rw (no_line _ _ counted _ (sym c.is_chan.ensures ∙ c.if-not-is_chan.true)) nothing
 
 pub returns : goal.returns
 returns c =
     let (size, counted, big) = c.requires.store_size_in_bounds in
-    rw (no_line _ _ counted _ (sym c.is_chan.ensures ∙ c.if-is_chan.false)) nothing
+    rw (channel_line_lem _ _ counted _ (sym c.is_chan.ensures ∙ c.if-not-is_chan.false)) (rw c.words-told.ensures at c.put_channel.ensures)
