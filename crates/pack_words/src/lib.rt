@@ -9,13 +9,13 @@ ghost use Rattle.packing.specs.Packing.{packed, word_bits, Lossless};
 use calls::VerdictAnswer;
 use packing::{Packs, pack};
 
-// The five words of a verdict.
+// A verdict that is given: its five words.
 #[derive(Drop)]
-struct Words {
+struct Given {
     words: [bool; 5],
 }
 
-impl Packs for Words {
+impl Packs for Given {
     ghost use Rattle.packing.specs.Packing.{word_bits};
     ghost use Rattle.pack_words.specs.Words.{word_values};
 
@@ -42,6 +42,6 @@ pub fn pack_verdict(answer: VerdictAnswer) -> u64
     requires words_len { length answer.words ≡ length verdict_words }
     ensures { result ≡ packed word_bits (verdict_answer answer) }
 {
-    let words = Words { words: answer.words };
-    pack(answer.status.and(Ok(words)))
+    let words = answer.words;
+    pack(answer.status.and(Ok(Given { words })))
 }

@@ -25,5 +25,5 @@ put_document-requires c = record { store_size_in_bounds = opens_long _ _ c.in_ok
 pub returns-in_err-rows : goal.returns-in_err-rows
 returns-in_err-rows c = let p = err_from_is_err_and c.from_residual.result c.from_residual.ensures.1 in rw (p.1, p.2) (refused_store _ _ _ c.in_err-rows.ensures)
 
-pub returns-else-out-length : goal.returns-else-out-length
-returns-else-out-length c = whole_text _ _ _ _ _ _ c.in_ok-rows.ensures c.document_length-length.ensures c.if-out-length.false c.put_document.ensures
+pub returns : goal.returns
+returns c = whole_text _ _ _ _ _ _ c.in_ok-rows.ensures c.document_length-length.ensures c.if-out-length.false c.put_document.ensures

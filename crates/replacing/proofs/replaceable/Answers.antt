@@ -23,6 +23,6 @@ returns-then-mark_members c =
 pub returns-in_err-rows : goal.returns-in_err-rows
 returns-in_err-rows c = let p = err_from_is_err_and c.from_residual.result c.from_residual.ensures.1 in rw (p.1, p.2) (store_refused _ _ _ _ _ c.in_err-rows.ensures)
 
-pub returns-else-mark_members : goal.returns-else-mark_members
-returns-else-mark_members c =
+pub returns : goal.returns
+returns c =
     rw c.at-2.ensures (not_a_set _ _ c.in_ok-rows.ensures _ (is_bound_lem _ _ c.in_ok-rows.ensures _ _ c.bound-marks.ensures c.byte_at.ensures c.if-byte_at-eq0.false) _ c.allowed_members-members.ensures c.mark_members.ensures c.if-mark_members.false)
