@@ -6,12 +6,12 @@ use mathlib.Core.List.{[], ◌∷◌}
 use mathlib.Core.Path.{◌≡◌, refl, ap, ◌∙◌}
 use lib.ListN.{length, set, length-set}
 use lib.Seq.{get_or-set_same, get_or-set_other, set-get_or}
-use lib.Dec.{ltb, eqb}
-use borrow.Author.Tests.{eq-eqb, ne_eqb, ltb-true, ltb-false}
+use lib.Dec.{eqb}
+use borrow.Author.Tests.{eq-eqb, ne_eqb}
 use Rattle.program.specs.Test.{pick}
 use Rattle.format.specs.Text.{Bytes, byte_at}
 use Rattle.sets.specs.Sets.{unless_in}
-use Rattle.set_adds.specs.Adding.{joined, zeros, Joined}
+use Rattle.set_adds.specs.Adding.{joined, zeros}
 
 pub zeros_fall : (s : Bytes) (i v : ℕ) → i < length s → byte_at s i ≡ 0 → 0 < v → suc (zeros (set s i v)) ≡ zeros s
 unfolding zeros
@@ -50,17 +50,6 @@ pub record JoinedTo (at i : ℕ) (part s s' : Bytes) (more : ℕ) : Type 0 where
   pub really : 0 < more → zeros s' < zeros s
   pub still : more ≡ 0 → s' ≡ s
 
-pub joined_none : (at : ℕ) (part s : Bytes) → JoinedTo at 0 part s s 0
-joined_none at part s = record {
-  size = refl;
-  joins = λ j l. absurd (omega arith);
-  before = λ q l. refl;
-  behind = λ q l. refl;
-  fewer = omega arith;
-  really = λ l. absurd (omega arith);
-  still = λ e. refl;
-}
-
 pub joined_more : {at i more : ℕ} {part s s' : Bytes} → JoinedTo at i part s s' more → at + i < length s'
     → JoinedTo at (i + 1) part s (set s' (at + i) (joined (byte_at s' (at + i)) (byte_at part i))) (max more (unless_in (byte_at part i) (byte_at s' (at + i))))
 joined_more {at} {i} {more} {part} {s} {s'} h l =
@@ -85,25 +74,4 @@ joined_more {at} {i} {more} {part} {s} {s'} h l =
     fall = elim (dec_eq (unless_in (byte_at part i) (byte_at s' (at + i))) 0) [
       | yes e ↦ (rw (byte_still s' (at + i) (byte_at part i) e) h.fewer, λ m. rw (byte_still s' (at + i) (byte_at part i) e) (h.really (omega arith)))
       | no d ↦ (let q = byte_falls s' (at + i) (byte_at part i) l (omega arith) in (omega (arith, h.fewer), λ m. omega (arith, h.fewer)))
-    ]
-
-pub joined_all : {at i n more : ℕ} {part s s' : Bytes} → JoinedTo at i part s s' more → i ≡ n → Joined at n part s s' (ltb 0 more)
-joined_all {more = more} h e = record {
-  size = h.size;
-  joins = λ j l. h.joins j (omega arith);
-  before = h.before;
-  behind = λ q l. h.behind q (omega arith);
-  fewer = h.fewer;
-  really = λ t. h.really (ltb-true 0 more t);
-  still = λ t. h.still (omega (arith, ltb-false 0 more t));
-}
-
--- ---- a set copied byte by byte
-
-pub copied_more : (s part : Bytes) (at i : ℕ) → i < length part → ((j : ℕ) → j < i → byte_at part j ≡ byte_at s (at + j))
-    → (j : ℕ) → j < i + 1 → byte_at (set part i (byte_at s (at + i))) j ≡ byte_at s (at + j)
-copied_more s part at i l h j k =
-    elim (dec_eq j i) [
-      | yes e ↦ rw e (get_or-set_same part i _ 0 l)
-      | no d ↦ get_or-set_other part i j _ 0 d ∙ h j (omega arith)
     ]

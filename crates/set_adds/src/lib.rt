@@ -1,7 +1,7 @@
 // Sets of a store that are added to: a set joined to another, a member put in.
 #![tactic(auto)]
 
-ghost use Rattle.std.specs.Prelude.{◌||◌, ◌≡◌, ℕ, ◌+◌, ◌<◌, ◌≤◌, length};
+ghost use Rattle.std.specs.Prelude.{◌≡◌, ℕ, ◌+◌, ◌<◌, ◌≤◌, length};
 ghost use Rattle.format.specs.Limits.{row_limit};
 ghost use Rattle.format.specs.Text.{byte_at};
 ghost use Rattle.calls.specs.Layout.{member_limit, store_size};
@@ -11,22 +11,28 @@ ghost use Rattle.store.specs.Rows.{store_program};
 ghost use Rattle.sets.specs.Sets.{set_of};
 ghost use Rattle.set_adds.specs.Adding.{set_at, position_of, number_of, joined, Copied, Joined, Adds};
 
-use byte_order::larger;
 use sets::unless_in;
 use store::Store;
 
-// The set of a name or of a channel row.
-#[derive(Drop)]
+// The set of a name or of a channel row. A struct of a table and a number would say the same in more words at each call.
+#[derive(Clone, Copy, PartialEq, Eq)]
 pub enum Variable {
     Name(u8),
     Channel(u8),
 }
 
-// Whether one of the two holds.
-pub fn either(a: bool, b: bool) -> bool
-    ensures { result ≡ (a || b) }
-{
-    if a { true } else { b }
+impl Variable {
+    // Where the set stands in a store.
+    #[tactic(auto, unfolding(crate::specs::Adding::position_of))]
+    fn position(self) -> usize
+        requires { number_of self < row_limit }
+        ensures { result ≡ position_of self }
+    {
+        match self {
+            Variable::Name(n) => Store::FLOWS + n as usize * Store::MEMBERS,
+            Variable::Channel(c) => Store::COMMS + c as usize * Store::MEMBERS,
+        }
+    }
 }
 
 // A member's byte with that of another set joined to it.
@@ -37,30 +43,13 @@ fn join(own: u8, other: u8) -> u8
     if own == 0 { other } else { own }
 }
 
-// Where a set stands in a store.
-#[tactic(auto, unfolding(crate::specs::Adding::position_of))]
-fn position(place: Variable) -> usize
-    requires { number_of place < row_limit }
-    ensures { result ≡ position_of place }
-{
-    match place {
-        Variable::Name(n) => Store::FLOWS + n as usize * Store::MEMBERS,
-        Variable::Channel(c) => Store::COMMS + c as usize * Store::MEMBERS,
-    }
-}
-
 // The first members of the set at a position. It is read from this copy while the store is written, so that the loop takes many bytes at a time.
 fn copy_set(store: &[u8], at: usize, members: usize) -> [u8; Store::MEMBERS]
     requires { (members ≤ member_limit) × (at + members ≤ length store.now) }
     ensures { Copied at members store.now result }
 {
     let mut set = [0u8; Store::MEMBERS];
-    let mut i = 0;
-    while i < members {
-        let from = at + i;
-        set[i] = store[from];
-        i += 1;
-    }
+    set[..members].copy_from_slice(&store[at..at + members]);
     set
 }
 
@@ -70,15 +59,11 @@ fn join_set(store: &mut [u8], at: usize, members: usize, set: &[u8]) -> bool
     ensures { Joined at members set.now store.old store.new result }
 {
     let mut more = 0;
-    let mut i = 0;
-    while i < members {
-        let to = at + i;
-        let own = store[to];
+    for i in 0..members {
+        let own = store[at + i];
         let other = set[i];
-        let new = unless_in(other, own);
-        more = larger(more, new);
-        store[to] = join(own, other);
-        i += 1;
+        more = more.max(unless_in(other, own));
+        store[at + i] = join(own, other);
     }
     0 < more
 }
@@ -91,8 +76,8 @@ pub fn add_set(store: &mut [u8], rows: u8, from: Variable, to: Variable) -> bool
     ensures { Adds (λ flow comm. lies (store_program rows store.old) (set_at from flow comm) (set_at to flow comm)) store.old store.new result }
 {
     let members = rows as usize + 1;
-    let set = copy_set(store, position(from), members);
-    join_set(store, position(to), members, &set)
+    let set = copy_set(store, from.position(), members);
+    join_set(store, to.position(), members, &set)
 }
 
 // Adds the members of a set of bytes to the set of a name, as far as the program's rows go.
@@ -101,7 +86,7 @@ pub fn add_members(store: &mut [u8], rows: u8, n: u8, set: &[u8]) -> bool
     requires member_limit_in_bounds { (member_limit ≤ length set.now) × ((i : ℕ) → byte_at set.now i < 2) }
     ensures { let bytes = store.old in Adds (λ flow comm. lies (store_program rows bytes) (set_of set.now) (flow n)) bytes store.new result }
 {
-    join_set(store, position(Variable::Name(n)), rows as usize + 1, set)
+    join_set(store, Variable::Name(n).position(), rows as usize + 1, set)
 }
 
 // Puts a member into the set of a name.
@@ -111,9 +96,9 @@ pub fn put_member(store: &mut [u8], n: u8, member: usize) -> bool
     ensures { Adds (λ flow comm. flow n (abstract_of member)) store.old store.new result }
 {
     let at = Store::FLOWS + n as usize * Store::MEMBERS + member;
-    if store[at] == 0 {
+    let missing = store[at] == 0;
+    if missing {
         store[at] = 1;
-        return true;
     }
-    false
+    missing
 }
