@@ -1,14 +1,15 @@
 -- The rule of a sync for what it sends, as changes of a store meet it.
 use Prim.Native.Nat.{ℕ, ◌<◌, ◌≤◌}
-use mathlib.Core.Bool.{Bool, false, ◌||◌}
+use mathlib.Core.Bool.{Bool, true, false, false≢true, ◌||◌}
 use mathlib.Core.List.{List, ◌∷◌}
-use mathlib.Core.Path.{◌≡◌, sym, ◌∙◌}
+use mathlib.Core.Path.{◌≡◌, refl, sym, ◌∙◌}
+use Rattle.std.specs.Prelude.{Option, None as none, Some as some}
 use Rattle.program.specs.declared.Form.{Form}
-use Rattle.program.specs.declared.Form.TheVariants.{Chan, Send}
+use Rattle.program.specs.declared.Form.TheVariants.{Send}
 use Rattle.program.specs.Each.{Each, ◌&◌}
-use Rattle.program.specs.Maybe.{when}
+use Rattle.program.specs.Maybe.{when, has}
 use Rattle.program.specs.Test.{all}
-use Rattle.program.specs.Program.{Program, row_at, is_chan, chan_at}
+use Rattle.program.specs.Program.{Program, row_at, chan_row, chan_at}
 use Rattle.program.specs.Flow.{u, lies, for_each, for_each_chan}
 use Rattle.format.specs.Limits.{row_limit}
 use Rattle.format.specs.Text.{Bytes, byte_at}
@@ -17,7 +18,7 @@ use Rattle.calls.specs.Layout.{rows_size}
 use Rattle.store.specs.Rows.{store_program}
 use Rattle.store.proofs.Laws.{program_length}
 use Rattle.forms.specs.Forms.{form_in}
-use Rattle.forms.proofs.Forms.{chan_at_lem, send_at_lem}
+use Rattle.forms.proofs.Forms.{send_at_lem}
 use Rattle.set_adds.specs.Adding.{Rule, Adds}
 use Rattle.set_adds.proofs.Adding.{adds_none, adds_as, adds_after, rows_same}
 use Rattle.send_adds.specs.Sends.{Ready, sent_rule, chan_rule, send_row_rule}
@@ -35,12 +36,22 @@ ready_stays rows {s = s} {s'} ready h = ready_same rows s s' ready h.size h.rows
 
 -- ---- a chan row
 
-module _ (p : Program) (k : ℕ) {f : Form} (e : f ≡ form_in (row_at p k)) where
-  pub chan_none : is_chan f ≡ false → (rule : Rule) (s : Bytes) → Adds (λ flow comm. when (chan_at p k) (λ m. rule flow comm)) s s false
-  chan_none q rule s = adds_none _ s λ flow comm. rw (chan_at_lem p k e (rule flow comm), q)
+module _ (p : Program) (k : ℕ) where
+  pub chan_none : chan_row p k ≡ false → (rule : Rule) (s : Bytes) → Adds (λ flow comm. when (chan_at p k) (λ m. rule flow comm)) s s false
+  unfolding chan_row has when
+  chan_none q rule s = go (chan_at p k) q
+    where
+      go : (o : Option ℕ) → has o (λ n. true) ≡ false → Adds (λ flow comm. when o (λ m. rule flow comm)) s s false
+      go none q = adds_none _ s (λ flow comm. refl)
+      go (some n) q = absurd (false≢true (sym q))
 
-  pub chan_some : f ≡ Chan → (rule : Rule) {s s' : Bytes} {more : Bool} → Adds rule s s' more → Adds (λ flow comm. when (chan_at p k) (λ m. rule flow comm)) s s' more
-  chan_some q rule h = adds_as rule _ (λ flow comm. rw (chan_at_lem p k e (rule flow comm), q)) h
+  pub chan_some : chan_row p k ≡ true → (rule : Rule) {s s' : Bytes} {more : Bool} → Adds rule s s' more → Adds (λ flow comm. when (chan_at p k) (λ m. rule flow comm)) s s' more
+  unfolding chan_row has when
+  chan_some q rule {s} {s'} {more} h = go (chan_at p k) q
+    where
+      go : (o : Option ℕ) → has o (λ n. true) ≡ true → Adds (λ flow comm. when o (λ m. rule flow comm)) s s' more
+      go none q = absurd (false≢true q)
+      go (some n) q = h
 
 -- ---- all rows
 

@@ -9,9 +9,9 @@ ghost use Rattle.store.specs.Rows.{store_program};
 ghost use Rattle.set_adds.specs.Adding.{Adds};
 ghost use Rattle.send_adds.specs.Sends.{Ready, sent_rule, chan_rule, send_row_rule};
 
-use forms::form_at;
+use forms::{form_at, is_chan};
 use program::Form;
-use set_adds::{Variable, add_set, either, put_member};
+use set_adds::{Variable, add_set, put_member};
 use tables::flow_has;
 
 // Adds what a sync whose bind has the name n asks of channel row k, to which a message is sent: unit in its own set, and the message's set in the channel's.
@@ -21,7 +21,7 @@ fn sent_adds(store: &mut [u8], rows: u8, n: u8, message: u8, k: u8) -> bool
 {
     let unit = put_member(store, n, 0);
     let sent = add_set(store, rows, Variable::Name(message), Variable::Channel(k));
-    either(unit, sent)
+    unit | sent
 }
 
 // The same of row k, if it is a chan row in the set of name c.
@@ -29,13 +29,7 @@ fn chan_adds(store: &mut [u8], rows: u8, n: u8, message: u8, c: u8, k: u8) -> bo
     requires { (store_size ≤ length store.old) × (rows ≤ row_limit) × (n < row_limit) × (k < row_limit) × (message < row_limit) }
     ensures { Adds (chan_rule (store_program rows store.old) n message c k) store.old store.new result }
 {
-    if flow_has(store, c, k) {
-        let Form::Chan = form_at(store, rows, k) else {
-            return false;
-        };
-        return sent_adds(store, rows, n, message, k);
-    }
-    false
+    flow_has(store, c, k) && is_chan(store, rows, k) && sent_adds(store, rows, n, message, k)
 }
 
 // The same of each chan row in the set of name c.
@@ -44,11 +38,8 @@ fn chans_add(store: &mut [u8], rows: u8, n: u8, message: u8, c: u8) -> bool
     ensures { let p = store_program rows store.old in Adds (λ flow comm. for_each_chan p (flow c) (λ j. sent_rule p n message j flow comm)) store.old store.new result }
 {
     let mut more = false;
-    let mut k = 0;
-    while k < rows {
-        let new = chan_adds(store, rows, n, message, c, k);
-        more = either(more, new);
-        k += 1;
+    for k in 0..rows {
+        more |= chan_adds(store, rows, n, message, c, k);
     }
     more
 }

@@ -12,5 +12,4 @@ add_set-sent-requires c =
 
 pub returns : goal.returns
 unfolding set_at abstract_of
-returns c =
-    rw c.either.ensures (unit_sent _ _ _ _ c.requires.1 c.put_member-unit.ensures c.add_set-sent.ensures)
+returns c = unit_sent _ _ _ _ c.requires.1 c.put_member-unit.ensures c.add_set-sent.ensures
