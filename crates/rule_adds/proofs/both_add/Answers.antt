@@ -16,6 +16,5 @@ add_set-two-requires c = record { store_size_in_bounds = (omega (arith, c.add_se
 pub returns : goal.returns
 unfolding set_at
 returns c =
-    rw c.either.ensures
-    (adds_after _ (λ p flow comm. lies p (flow c.args.b) (flow c.args.n)) c.requires.1 c.add_set-one.ensures
-    c.add_set-two.ensures)
+    adds_after _ (λ p flow comm. lies p (flow c.args.b) (flow c.args.n)) c.requires.1 c.add_set-one.ensures
+    c.add_set-two.ensures

@@ -8,6 +8,6 @@ pub returns-then-flow_has : goal.returns-then-flow_has
 unfolding member_rule
 returns-then-flow_has c = adds_member _ _ (sym c.flow_has.ensures ∙ c.if-flow_has.true) c.asked_adds.ensures
 
-pub returns : goal.returns
+pub returns-else-flow_has : goal.returns-else-flow_has
 unfolding member_rule
-returns c = adds_other _ _ _ _ (sym c.flow_has.ensures ∙ c.if-flow_has.false)
+returns-else-flow_has c = rw c.if-flow_has.false (adds_other _ _ _ _ (sym c.flow_has.ensures ∙ c.if-flow_has.false))
