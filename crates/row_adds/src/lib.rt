@@ -15,7 +15,7 @@ use forms::row_in;
 use program::{Form, Row};
 use recv_adds::recvs_add;
 use rule_adds::{Ask, each_adds};
-use set_adds::{either, put_member};
+use set_adds::put_member;
 
 // Adds what the rule of a form at row r asks, where its bind has the name n. The last arm is that of the value rows other than fun.
 #[tactic(auto, using(crate::proofs::Rows::own_low), unfolding(program::specs::Flow::keeps_form, inference::specs::Inference::abstract_of))]
@@ -28,20 +28,16 @@ fn form_adds(store: &mut [u8], rows: u8, r: u8, n: u8, form: Form, names: &[u8])
     let member = r as usize + 1;
     match form {
         Form::Unit => put_member(store, n, 0),
-        Form::Fun {
-            own,
-            parameter: _,
-            body: _,
-        } => {
+        Form::Fun { own, .. } => {
             let value = put_member(store, n, member);
             let inner = put_member(store, own, member);
-            either(value, inner)
+            value | inner
         }
-        Form::Spawn { child: _ } => put_member(store, n, 0),
+        Form::Spawn { .. } => put_member(store, n, 0),
         Form::Sync { event } => {
             let sent = each_adds(store, rows, n, Ask::Send, names, event);
             let received = recvs_add(store, rows, n, event);
-            either(sent, received)
+            sent | received
         }
         Form::First { pair } => each_adds(store, rows, n, Ask::First, names, pair),
         Form::Second { pair } => each_adds(store, rows, n, Ask::Second, names, pair),
@@ -85,6 +81,5 @@ pub fn row_adds(store: &mut [u8], rows: u8, r: u8, names: &[u8]) -> bool
     let Row::Bind(b) = row_in(store, rows, r) else {
         return false;
     };
-    let form = b.form;
-    form_adds(store, rows, r, b.name, form, names)
+    form_adds(store, rows, r, b.name, b.form, names)
 }

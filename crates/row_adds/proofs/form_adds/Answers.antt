@@ -54,7 +54,7 @@ returns-in-Unit c = rw c.in-Unit.is c.put_member.ensures
 pub returns-in-Fun : goal.returns-in-Fun
 unfolding keeps_form
 returns-in-Fun c =
-    rw (c.in-Fun.is, c.either.ensures)
+    rw c.in-Fun.is
     (adds_then (row_put _ _ c.put_member-value.ensures) (row_put _ _ c.put_member-inner.ensures))
 
 pub returns-in-Spawn : goal.returns-in-Spawn
@@ -63,7 +63,7 @@ returns-in-Spawn c = rw c.in-Spawn.is c.put_member-in-Spawn.ensures
 
 pub returns-in-Sync : goal.returns-in-Sync
 returns-in-Sync c =
-    rw (c.in-Sync.is, c.either-in-Sync.ensures) (sync_both _ _ _ _ c.requires.ready.few c.each_adds-sent.ensures c.recvs_add-received.ensures)
+    rw c.in-Sync.is (sync_both _ _ _ _ c.requires.ready.few c.each_adds-sent.ensures c.recvs_add-received.ensures)
 
 pub returns-in-First : goal.returns-in-First
 unfolding keeps_form ask_rule
