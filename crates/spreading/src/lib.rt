@@ -10,42 +10,23 @@ ghost use Rattle.asks.specs.Asks.{Names};
 ghost use Rattle.send_adds.specs.Sends.{Ready};
 ghost use Rattle.spreading.specs.Growing.{Grows};
 
-use set_adds::either;
 use visits::visit;
 
-// Adds what the rules ask, from the first row to the last.
-fn sweep_down(store: &mut [u8], rows: u8, names: &[u8], parts: &[u8], marks: &mut [u8]) -> bool
+// Adds what the rules ask, row after row: down from the first, or up from the last.
+fn sweep(store: &mut [u8], rows: u8, names: &[u8], parts: &[u8], marks: &mut [u8], up: bool) -> bool
     requires ready { Ready rows store.old }
     requires names { Names (store_program rows store.old) names.now }
     ensures { Grows rows store.old store.new result }
 {
     let mut more = false;
-    let mut r = 0;
-    while r < rows {
-        let new = visit(store, rows, r, names, parts, marks);
-        more = either(more, new);
-        r += 1;
+    for k in 0..rows {
+        let r = if up { rows - 1 - k } else { k };
+        more |= visit(store, rows, r, names, parts, marks);
     }
     more
 }
 
-// Adds what the rules ask, from the last row to the first.
-fn sweep_up(store: &mut [u8], rows: u8, names: &[u8], parts: &[u8], marks: &mut [u8]) -> bool
-    requires ready { Ready rows store.old }
-    requires names { Names (store_program rows store.old) names.now }
-    ensures { Grows rows store.old store.new result }
-{
-    let mut more = false;
-    let mut left = rows;
-    while 0 < left {
-        left -= 1;
-        let new = visit(store, rows, left, names, parts, marks);
-        more = either(more, new);
-    }
-    more
-}
-
-// Down the rows and up again, until neither adds anything.
+// Down the rows and up again, until neither adds anything: a loop on that, which counts no index.
 pub fn spread(store: &mut [u8], rows: u8, names: &[u8])
     requires ready { Ready rows store.old }
     requires names { Names (store_program rows store.old) names.now }
@@ -56,10 +37,10 @@ pub fn spread(store: &mut [u8], rows: u8, names: &[u8])
     marks::start(&mut notes);
     let mut more = true;
     while more {
-        let down = sweep_down(store, rows, names, &parts, &mut notes);
+        let down = sweep(store, rows, names, &parts, &mut notes, false);
         marks::age(&mut notes);
-        let up = sweep_up(store, rows, names, &parts, &mut notes);
+        let up = sweep(store, rows, names, &parts, &mut notes, true);
         marks::age(&mut notes);
-        more = either(down, up);
+        more = down | up;
     }
 }

@@ -6,12 +6,11 @@ ghost use Rattle.send_adds.specs.Sends.{Ready};
 ghost use Rattle.spreading.specs.Growing.{Grows};
 
 use forms::row_in;
-use marks::cell;
+use marks::{KIND, NAME, SYNC, cell};
 use program::{Form, Row};
 use recv_adds::recvs_add;
 use row_adds::row_adds;
 use rule_adds::{Ask, member_adds};
-use set_adds::either;
 
 // Adds what the rule of row r asks of row k, if it is in its set. A sync's receives are had together.
 fn member_grows(store: &mut [u8], rows: u8, r: u8, names: &[u8], k: u8) -> bool
@@ -24,8 +23,7 @@ fn member_grows(store: &mut [u8], rows: u8, r: u8, names: &[u8], k: u8) -> bool
         return false;
     };
     let n = b.name;
-    let form = b.form;
-    match form {
+    match b.form {
         Form::Sync { event } => member_adds(store, rows, n, Ask::Send, names, event, k),
         Form::First { pair } => member_adds(store, rows, n, Ask::First, names, pair, k),
         Form::Second { pair } => member_adds(store, rows, n, Ask::Second, names, pair, k),
@@ -75,15 +73,15 @@ fn member_visit(
     requires r_lt_rows { (r < rows) × (k < rows) }
     ensures { Grows rows store.old store.new result }
 {
-    if marks::asks_member(store, marks, r, all, k) {
-        marks::see(marks, r, k);
-        let more = member_grows(store, rows, r, names, k);
-        if more {
-            marks::note_added(store, marks, parts, r, k);
-        }
-        return more;
+    if !marks::asks_member(store, marks, r, all, k) {
+        return false;
     }
-    false
+    marks::see(marks, r, k);
+    let more = member_grows(store, rows, r, names, k);
+    if more {
+        marks::note_added(store, marks, parts, r, k);
+    }
+    more
 }
 
 // Adds what a sync at row r asks of all receives in its set.
@@ -95,12 +93,10 @@ fn receives_grow(store: &mut [u8], rows: u8, r: u8) -> bool
     let Row::Bind(b) = row_in(store, rows, r) else {
         return false;
     };
-    let n = b.name;
-    let form = b.form;
-    let Form::Sync { event } = form else {
+    let Form::Sync { event } = b.form else {
         return false;
     };
-    recvs_add(store, rows, n, event)
+    recvs_add(store, rows, b.name, event)
 }
 
 // The same, unless there is nothing new to ask.
@@ -109,17 +105,14 @@ fn receives_visit(store: &mut [u8], rows: u8, r: u8, parts: &[u8], marks: &mut [
     requires r_lt_rows { r < rows }
     ensures { Grows rows store.old store.new result }
 {
-    if cell(store, r, 0) != marks::SYNC {
+    if cell(store, r, KIND) != SYNC || !marks::asks_some(store, marks, parts, r, true) {
         return false;
     }
-    if marks::asks_some(store, marks, parts, r, true) {
-        let more = receives_grow(store, rows, r);
-        if more {
-            marks::note(marks, parts, cell(store, r, 1));
-        }
-        return more;
+    let more = receives_grow(store, rows, r);
+    if more {
+        marks::note(marks, parts, cell(store, r, NAME));
     }
-    false
+    more
 }
 
 // Adds what the rule of row r asks of the rows in its set, each apart unless there is nothing new to ask.
@@ -138,11 +131,8 @@ fn members_visit(
     ensures { Grows rows store.old store.new result }
 {
     let mut more = false;
-    let mut k = 0;
-    while k < rows {
-        let new = member_visit(store, rows, r, names, parts, marks, all, k);
-        more = either(more, new);
-        k += 1;
+    for k in 0..rows {
+        more |= member_visit(store, rows, r, names, parts, marks, all, k);
     }
     more
 }
@@ -162,13 +152,8 @@ fn apart_visit(
     ensures { Grows rows store.old store.new result }
 {
     let all = marks::asks_all(store, names, marks, r);
-    if all {
-        return members_visit(store, rows, r, names, parts, marks, all);
-    }
-    if marks::asks_some(store, marks, parts, r, false) {
-        return members_visit(store, rows, r, names, parts, marks, all);
-    }
-    false
+    (all || marks::asks_some(store, marks, parts, r, false))
+        && members_visit(store, rows, r, names, parts, marks, all)
 }
 
 // Adds what the rule of row r asks, unless there is nothing new to ask.
@@ -185,10 +170,10 @@ pub fn visit(
     requires r_lt_rows { r < rows }
     ensures { Grows rows store.old store.new result }
 {
-    if cell(store, r, 0) < marks::SYNC {
+    if cell(store, r, KIND) < SYNC {
         return row_adds(store, rows, r, names);
     }
     let together = receives_visit(store, rows, r, parts, marks);
     let apart = apart_visit(store, rows, r, names, parts, marks);
-    either(together, apart)
+    together | apart
 }

@@ -12,4 +12,4 @@ apart_visit-apart-requires c =
 
 pub returns : goal.returns
 returns c =
-    rw c.either.ensures (grows_then _ c.requires.ready.few c.receives_visit-together.ensures c.apart_visit-apart.ensures)
+    grows_then _ c.requires.ready.few c.receives_visit-together.ensures c.apart_visit-apart.ensures
