@@ -1,11 +1,15 @@
 -- Rounds until one adds nothing: from empty sets they leave the smallest tables.
-use Prim.Native.Nat.{ℕ, ◌+◌, ◌<◌, ◌≤◌}
+use Prim.Native.Nat.{ℕ, ◌+◌, ◌-◌, ◌<◌, ◌≤◌}
 use native.Mathlib.Omega.{arith}
 use mathlib.Core.Bool.{Bool, true, false, So, not, false≢true}
-use mathlib.Core.Path.{◌≡◌, refl, sym, ◌∙◌, fun_ext}
-use lib.ListN.{length, set, length-set}
-use lib.Seq.{get_or-set_same, get_or-set_other}
-use native.Mathlib.Decide.{ℕ_discrete as dec_eq}
+use mathlib.Core.List.{◌++◌}
+use mathlib.Core.Path.{◌≡◌, refl, sym, ap, ◌∙◌, fun_ext}
+use lib.ListN.{length, take, drop, replicate, length-drop, length-append, length-replicate, get_or-append}
+use lib.Seq.{get_or-take, get_or-drop, length-take-le}
+use borrow.Rule.Slice.PartMut.{put_mid}
+use Rattle.std.proofs.lemmas.List.{get_or-append_right, get_or-replicate}
+use Rattle.std.proofs.lemmas.List.Edits.{paste_all}
+use Rattle.std.proofs.lemmas.Slice.{put_mid-paste}
 use Rattle.std.specs.Prelude.{Option, None as none, Some as some}
 use Rattle.program.specs.Test.{least}
 use Rattle.program.specs.Flow.{Table, keeps_at, keeps_all}
@@ -16,7 +20,7 @@ use Rattle.least.proofs.Least.{smallest_keeps, smallest_lies}
 use Rattle.format.specs.Limits.{row_limit}
 use Rattle.format.specs.Text.{Bytes, byte_at}
 use Rattle.format.specs.Document.{member}
-use Rattle.calls.specs.Layout.{rows_size, claims_start}
+use Rattle.calls.specs.Layout.{rows_size, sets_size, claims_start, store_size}
 use Rattle.store.specs.Rows.{store_program, row_or}
 use Rattle.store.proofs.Laws.{program_length}
 use Rattle.tables.specs.Tables.{store_flow, store_comm}
@@ -84,29 +88,49 @@ settles_grown n few g h =
 
 -- ---- empty sets
 
--- emptied up to a byte
-pub record ClearedTo (i : ℕ) (s s' : Bytes) : Type 0 where
-  pub size : length s' ≡ length s
-  pub others : (q : ℕ) → q < rows_size → byte_at s' q ≡ byte_at s q
-  pub behind : (q : ℕ) → i ≤ q → byte_at s' q ≡ byte_at s q
-  pub none : (q : ℕ) → rows_size ≤ q → q < i → byte_at s' q ≡ 0
+unfoldable empty_sets : Bytes
+empty_sets = replicate (sets_size + sets_size) 0
 
-pub cleared_none : (s : Bytes) → ClearedTo rows_size s s
-cleared_none s = record { size = refl; others = λ q l. refl; behind = λ q l. refl; none = λ q l k. absurd (omega arith) }
+empty_size : length empty_sets ≡ sets_size + sets_size
+unfolding empty_sets
+empty_size = length-replicate {A = ℕ} (sets_size + sets_size) 0
 
-pub cleared_more : (i : ℕ) {s s' : Bytes} → rows_size ≤ i → i < length s' → ClearedTo i s s' → ClearedTo (i + 1) s (set s' i 0)
-cleared_more i {s} {s'} l k h = record {
-  size = simp length-set h.size;
-  others = λ q m. get_or-set_other s' i q 0 0 (λ e. omega arith) ∙ h.others q m;
-  behind = λ q m. get_or-set_other s' i q 0 0 (λ e. omega arith) ∙ h.behind q (omega arith);
-  none = λ q m o. elim (dec_eq q i) [ yes e ↦ rw e (get_or-set_same s' i 0 0 k) | no d ↦ get_or-set_other s' i q 0 0 d ∙ h.none q m (omega arith) ];
-}
+empty_at : (i : ℕ) → i < sets_size + sets_size → byte_at empty_sets i ≡ 0
+unfolding empty_sets
+empty_at i l = get_or-replicate {A = ℕ} (sets_size + sets_size) i 0 0 l
 
-pub cleared_all : {i : ℕ} {s s' : Bytes} → i ≡ claims_start → ClearedTo i s s' → Cleared s s'
-cleared_all e h = record {
-  resets = record { size = h.size; rows = h.others; rest = λ q l. h.behind q (omega arith) };
-  none = λ q l m. h.none q l (omega arith);
-}
+-- a store with zeros in the place of its sets
+module _ (s s' : Bytes) (long : store_size ≤ length s) (e : s' ≡ take rows_size s ++ (empty_sets ++ drop claims_start s)) where
+  head_size : length (take rows_size s) ≡ rows_size
+  head_size = length-take-le rows_size s (omega arith)
+
+  behind : (q : ℕ) → rows_size ≤ q → byte_at s' q ≡ byte_at (empty_sets ++ drop claims_start s) (q - rows_size)
+  behind q l = ap (λ (x : Bytes). byte_at x q) e ∙ get_or-append_right (take rows_size s) _ rows_size q 0 head_size l
+
+  cleared : Cleared s s'
+  cleared = record {
+    resets = record {
+      size =
+          ap (λ (x : Bytes). length x) e
+          ∙ omega (arith, length-append (take rows_size s) (empty_sets ++ drop claims_start s), length-append empty_sets (drop claims_start s), head_size, empty_size, length-drop claims_start s);
+      rows = λ q l. ap (λ (x : Bytes). byte_at x q) e ∙ get_or-append (take rows_size s) _ 0 q (omega (arith, head_size)) ∙ get_or-take rows_size s q 0 l;
+      rest = λ q l.
+          let i : claims_start + (q - rows_size - (sets_size + sets_size)) ≡ q = omega arith in
+          behind q (omega arith) ∙ get_or-append_right empty_sets _ (sets_size + sets_size) (q - rows_size) 0 empty_size (omega arith)
+          ∙ get_or-drop claims_start s (q - rows_size - (sets_size + sets_size)) 0 ∙ ap (byte_at s) i;
+    };
+    none = λ q l m.
+        behind q l ∙ get_or-append empty_sets _ 0 (q - rows_size) (omega (arith, empty_size))
+        ∙ empty_at (q - rows_size) (omega arith);
+  }
+
+-- filled with zeros
+pub cleared_fill : (s z : Bytes) → store_size ≤ length s → z ≡ replicate (length (take (sets_size + sets_size) (drop rows_size s))) 0 → Cleared s (put_mid rows_size (sets_size + sets_size) s z)
+unfolding empty_sets
+cleared_fill s z long e =
+    let size : length (take (sets_size + sets_size) (drop rows_size s)) ≡ sets_size + sets_size = length-take-le (sets_size + sets_size) (drop rows_size s) (omega (arith, length-drop rows_size s)) in
+    let zeros : z ≡ empty_sets = e ∙ ap (λ n. replicate {A = ℕ} n 0) size in
+    cleared s _ long (put_mid-paste rows_size (sets_size + sets_size) s z empty_sets (sets_size + sets_size) zeros refl (sym empty_size) ∙ paste_all s rows_size empty_sets (sets_size + sets_size) (sym empty_size))
 
 -- ---- from empty sets
 

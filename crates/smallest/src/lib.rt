@@ -12,7 +12,6 @@ ghost use Rattle.smallest.specs.Smallest.{Settles, Cleared, Least};
 
 use flow::failing_row;
 use row_adds::row_adds;
-use set_adds::either;
 use spreading::spread;
 use store::{NO_ROW, Store};
 
@@ -23,16 +22,13 @@ fn round(store: &mut [u8], rows: u8, names: &[u8]) -> bool
     ensures { Adds (λ flow comm. keeps_all (store_program rows store.old) flow comm) store.old store.new result }
 {
     let mut more = false;
-    let mut r = 0;
-    while r < rows {
-        let new = row_adds(store, rows, r, names);
-        more = either(more, new);
-        r += 1;
+    for r in 0..rows {
+        more |= row_adds(store, rows, r, names);
     }
     more
 }
 
-// Rounds until one adds nothing. Each but the last adds a member, so the bytes that are 0 grow fewer.
+// Rounds until one adds nothing: a loop on that, which counts no index. Each but the last adds a member, so the bytes that are 0 grow fewer.
 #[tactic(auto, using(spreading::proofs::Growing::program_reset, spreading::proofs::Growing::ready_reset, spreading::proofs::Growing::grows_by, spreading::proofs::Growing::rounds_fall, crate::proofs::Settling::spreads_none, crate::proofs::Settling::spreads_more, crate::proofs::Settling::settles))]
 fn settle(store: &mut [u8], rows: u8, names: &[u8])
     requires ready { Ready rows store.old }
@@ -50,11 +46,7 @@ fn clear_sets(store: &mut [u8])
     requires { store_size ≤ length store.old }
     ensures { Cleared store.old store.new }
 {
-    let mut i = Store::FLOWS;
-    while i < Store::CLAIMS {
-        store[i] = 0;
-        i += 1;
-    }
+    store[Store::FLOWS..Store::CLAIMS].fill(0);
 }
 
 // Rounds over the rows until the rules hold, if they do not.

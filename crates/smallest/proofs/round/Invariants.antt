@@ -1,7 +1,4 @@
--- The loop's invariant: what the rules of the rows below r ask is added. The measure is the number of rows left.
-use Prim.Native.Nat.{◌≤◌, ◌-◌}
-use mathlib.Core.Path.{◌≡◌}
-use lib.ListN.{length}
+-- The loop's invariant: what the rules of the rows below r ask is added.
 use Rattle.program.specs.Test.{all}
 use Rattle.program.specs.Flow.{keeps_at}
 use Rattle.store.specs.Rows.{store_program}
@@ -10,7 +7,4 @@ use Rattle.smallest.proofs.round.Given as goal
 
 abbrev pub invariant-loop-r : goal.invariant-loop-r
 invariant-loop-r l =
-    (l.r ≤ l.rows) × (length l.store ≡ length l.initial.store) × Adds (λ flow comm. all l.r (λ i. keeps_at (store_program l.rows l.initial.store) flow comm i)) l.initial.store l.store l.more
-
-abbrev pub decreases-loop-r : goal.decreases-loop-r
-decreases-loop-r l = l.rows - l.r
+    Adds (λ flow comm. all l.r (λ i. keeps_at (store_program l.rows l.initial.store) flow comm i)) l.initial.store l.store l.more
