@@ -1,9 +1,15 @@
--- How many claims stand from row c on.
-use Prim.Native.Nat.{ℕ, suc, ◌+◌, ◌≤◌, ◌<◌, ◌-◌}
-use native.Mathlib.Numerals.{add-one}
-use mathlib.Core.Path.{◌≡◌, sym, ap, ◌∙◌}
-use lib.ListN.{length, get_or, drop, take, drop_of_length-le}
-use lib.Seq.{drop-cons, drop-drop}
+-- The claims and the sets of a store, counted.
+use Prim.Native.Nat.{ℕ, suc, ◌-◌}
+use Rattle.std.specs.List.{count_by}
+use Rattle.std.proofs.Common.{nat_eq}
+use Rattle.std.proofs.lemmas.List.Sums.{sum_by-cons}
+use mathlib.Core.Bool.{not, cond}
+use mathlib.Core.List.{[], ◌∷◌}
+use native.Mathlib.Decide.{ℕ_discrete as dec_eq}
+use native.Mathlib.Omega.{arith}
+use mathlib.Core.Path.{◌≡◌, refl, sym, ap, ◌∙◌}
+use lib.ListN.{length, drop, take}
+use lib.Seq.{drop-drop}
 use borrow.Author.Tests.{eq-eqb, ne_eqb}
 use Rattle.format.specs.Text.{Bytes}
 use Rattle.format.specs.Limits.{row_limit}
@@ -15,21 +21,13 @@ use Rattle.calls.proofs.Canonical.{drop_thrice}
 use Rattle.store.proofs.Laws.{rest_all}
 use Rattle.line_counts.specs.Counting.{store_counts}
 
-abbrev pub claims_from : ℕ → Bytes → ℕ
-claims_from c s = length (decode_claims c (drop c s))
-
-module _ (c : ℕ) (s : Bytes) (inside : c < length s) where
-  pub claim_skipped : get_or s c 0 ≡ 0 → claims_from c s ≡ claims_from (c + 1) s
-  unfolding decode_claims
-  claim_skipped e = rw (drop-cons s c 0 inside, eq-eqb (get_or s c 0) 0 e, decode_claims, add-one c)
-
-  pub claim_counted : (get_or s c 0 ≡ 0 → ⊥) → claims_from c s ≡ suc (claims_from (c + 1) s)
-  unfolding decode_claims
-  claim_counted d = rw (drop-cons s c 0 inside, ne_eqb (get_or s c 0) 0 d, decode_claims, add-one c)
-
-pub claims_end : (c : ℕ) (s : Bytes) → length s ≤ c → claims_from c s ≡ 0
+-- a claim for each code that is not 0
+pub claims_counted : (c : ℕ) (codes : Bytes) → count_by (λ code. not (nat_eq code 0)) codes ≡ length (decode_claims c codes)
 unfolding decode_claims
-claims_end c s l = rw (drop_of_length-le s l)
+claims_counted c [] = refl
+claims_counted c (code ∷ codes) =
+    sum_by-cons (λ (code : ℕ). cond (not (nat_eq code 0)) 1 0) code codes
+    ∙ elim (dec_eq code 0) [ yes e ↦ rw (eq-eqb code 0 e, decode_claims) (omega (arith, claims_counted (suc c) codes)) | no d ↦ rw (ne_eqb code 0 d, decode_claims) (omega (arith, claims_counted (suc c) codes)) ]
 
 -- the parts of a store behind its rows
 pub counted : (n f c k : ℕ) (s : Bytes)

@@ -9,20 +9,11 @@ use calls::Counts;
 use store::Store;
 
 // How many rows have a claim, of which each has a code.
+#[tactic(auto, using(crate::proofs::Counting::claims_counted))]
 pub fn count_claims(codes: &[u8]) -> usize
     ensures { result ≡ length (decode_claims 0 codes.now) }
 {
-    let mut lines = 0;
-    let mut c = 0;
-    while c < codes.len() {
-        let code = codes[c];
-        c += 1;
-        if code == 0 {
-            continue;
-        }
-        lines += 1;
-    }
-    lines
+    codes.iter().filter(|code| **code != 0).count()
 }
 
 // The counts of the lines of a store with so many rows.
@@ -35,8 +26,8 @@ pub fn store_counts(fixed: &[u8], rows: u8) -> Counts
     let claims = count_claims(&fixed[Store::CLAIMS..]);
     Counts {
         rows: rows as usize,
-        flows: flows,
-        comms: comms,
-        claims: claims,
+        flows,
+        comms,
+        claims,
     }
 }
