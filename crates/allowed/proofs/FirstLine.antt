@@ -3,8 +3,9 @@ use Prim.Native.Nat.{ℕ, ◌+◌, ◌≤◌}
 use native.Mathlib.Omega.{arith}
 use mathlib.Core.Bool.{Bool, true, false, not, ◌&&◌}
 use mathlib.Core.List.{List, [], ◌∷◌}
-use Rattle.std.specs.Prelude.{None as none, Some as some}
-use mathlib.Core.Path.{◌≡◌, refl, ap₂, fun_ext, sym, ◌∙◌}
+use Rattle.std.specs.Prelude.{None as none, Some as some, Result, Ok, Err}
+use Rattle.std.specs.Result.{result_err}
+use mathlib.Core.Path.{◌≡◌, refl, ap, ap₂, fun_ext, sym, ◌∙◌}
 use lib.ListN.{length, take, drop}
 use lib.Dec.{eqb}
 use Rattle.program.specs.Maybe.{◌<|>◌}
@@ -22,29 +23,29 @@ use Rattle.bounds.proofs.Bounds.{sets_few}
 use Rattle.store.specs.Document.{store_document}
 use Rattle.store.proofs.Document.{rows_are, flows_are, comms_are, claims_are}
 use Rattle.seen.specs.Flags.{flag, Tells}
-use Rattle.allowed_lines.specs.declared.Lines.{Lines}
-use Rattle.allowed_lines.specs.declared.Lines.TheVariants.{All, Failing}
 use Rattle.allowed_lines.specs.Lines.{marked, entry_marked, claim_marked, checked}
-use Rattle.allowed.specs.Answer.{line_or}
 
 -- ---- what checking finds
 
 module _ {A : Type 0} (ok : A → Bool) where
-  pub checked_failing : (line : ℕ) (xs : List A) {l : ℕ} → checked ok line xs ≡ Failing l → first_failing ok line xs ≡ some l
+  pub checked_err : (line : ℕ) (xs : List A) → result_err (checked ok line xs) ≡ first_failing ok line xs
   unfolding checked first_failing
-  checked_failing line [] h = let z : ◌≡◌ {A = ℕ} 0 1 = cc in absurd (omega arith)
-  checked_failing line (x ∷ xs) h =
-      either (ok x)
-      (λ e. rw (e, first_failing) (checked_failing (line + 1) xs (rw (e, checked) at h)))
-      (λ e. rw (e, first_failing) (let q : ◌≡◌ (Failing line) (Failing _) = rw (e, checked) at h in cc))
+  checked_err line [] = refl
+  checked_err line (x ∷ xs) = either (ok x) (λ e. rw (e, checked, first_failing) (checked_err (line + 1) xs)) (λ e. rw (e, checked, first_failing))
 
-  pub checked_all : (line : ℕ) (xs : List A) {n : ℕ} → checked ok line xs ≡ All n → (first_failing ok line xs ≡ none) × (n ≡ line + length xs)
-  unfolding checked first_failing
-  checked_all line [] {n} h = let q : line ≡ n = cc in (refl, omega arith)
-  checked_all line (x ∷ xs) h =
+  checked_failing : (line : ℕ) (xs : List A) {l : ℕ} → Err l ≡ checked ok line xs → first_failing ok line xs ≡ some l
+  checked_failing line xs h = sym (checked_err line xs) ∙ ap result_err (sym h)
+
+  checked_end : (line : ℕ) (xs : List A) {n : ℕ} → checked ok line xs ≡ Ok n → n ≡ line + length xs
+  unfolding checked
+  checked_end line [] {n} h = let q : line ≡ n = cc in omega arith
+  checked_end line (x ∷ xs) h =
       either (ok x)
-      (λ e. let (f, q) = checked_all (line + 1) xs (rw (e, checked) at h) in (rw (e, first_failing) f, omega arith))
-      (λ e. let q : ◌≡◌ (Failing line) (All _) = rw (e, checked) at h in let z : ◌≡◌ {A = ℕ} 0 1 = cc in absurd (omega arith))
+      (λ e. let q = checked_end (line + 1) xs (rw (e, checked) at h) in omega arith)
+      (λ e. let q : ◌≡◌ (Err line) (Ok _) = rw (e, checked) at h in let z : ◌≡◌ {A = ℕ} 0 1 = cc in absurd (omega arith))
+
+  checked_all : (line : ℕ) (xs : List A) {n : ℕ} → Ok n ≡ checked ok line xs → (first_failing ok line xs ≡ none) × (n ≡ line + length xs)
+  checked_all line xs h = (sym (checked_err line xs) ∙ ap result_err (sym h), checked_end line xs (sym h))
 
 -- ---- flags that tell what may be named
 
@@ -105,33 +106,25 @@ module _ (n : ℕ) (s : Bytes) {keys chans members : Bytes}
           claim_marked_lem p bound chan allowed,
         )
 
-    pub flow_fails : {x : Lines} {l : ℕ} → x ≡ checked (entry_marked keys members) (n + 2) flows → x ≡ Failing l → l ≡ line_or (not_allowed (store_document n s))
+    pub flow_fails : {l : ℕ} → Err l ≡ checked (entry_marked keys members) (n + 2) flows → some l ≡ not_allowed (store_document n s)
     unfolding ◌<|>◌
-    flow_fails e h = rw (parts, checked_failing _ _ _ (sym e ∙ h))
+    flow_fails h = rw (parts, checked_failing _ _ _ h)
 
-    module _ {x : Lines} {c : ℕ} (flow : x ≡ checked (entry_marked keys members) (n + 2) flows) (passed : x ≡ All c) where
+    module _ {c : ℕ} (flow : Ok c ≡ checked (entry_marked keys members) (n + 2) flows) where
       pub comm_line_lem : c ≤ n + 2 + row_limit
-      comm_line_lem = let (f, q) = checked_all _ _ _ (sym flow ∙ passed) in omega (arith, sets_few row_limit 0 (drop rows_size s))
+      comm_line_lem = let (f, q) = checked_all _ _ _ flow in omega (arith, sets_few row_limit 0 (drop rows_size s))
 
-      pub comm_fails : {y : Lines} {l : ℕ} → y ≡ checked (entry_marked chans members) c comms → y ≡ Failing l → l ≡ line_or (not_allowed (store_document n s))
+      pub comm_fails : {l : ℕ} → Err l ≡ checked (entry_marked chans members) c comms → some l ≡ not_allowed (store_document n s)
       unfolding ◌<|>◌
-      comm_fails e h = let (f, q) = checked_all _ _ _ (sym flow ∙ passed) in rw (parts, f, checked_failing _ _ _ (rw q at (sym e ∙ h)))
+      comm_fails h = let (f, q) = checked_all _ _ _ flow in rw (parts, f, ← q, checked_failing _ _ _ h)
 
-      module _ {y : Lines} {k : ℕ} (comm : y ≡ checked (entry_marked chans members) c comms) (more : y ≡ All k) where
+      module _ {k : ℕ} (comm : Ok k ≡ checked (entry_marked chans members) c comms) where
         pub claim_line_lem : k ≤ c + row_limit
-        claim_line_lem = let (g, e) = checked_all _ _ _ (sym comm ∙ more) in omega (arith, sets_few row_limit 0 (drop (comms_start) s))
+        claim_line_lem = let (g, e) = checked_all _ _ _ comm in omega (arith, sets_few row_limit 0 (drop (comms_start) s))
 
-        pub claim_fails : {z : Lines} {l : ℕ} → z ≡ checked (claim_marked chans) k claims → z ≡ Failing l → l ≡ line_or (not_allowed (store_document n s))
+        pub claims_decide : {z : Result ℕ ℕ} → z ≡ checked (claim_marked chans) k claims → result_err z ≡ not_allowed (store_document n s)
         unfolding ◌<|>◌
-        claim_fails claim h =
-            let (f, q) = checked_all _ _ _ (sym flow ∙ passed) in
-            let (g, e) = checked_all _ _ _ (sym comm ∙ more) in
-            rw (parts, f, ← q, g, ← e, checked_failing _ _ _ (sym claim ∙ h))
-
-        pub none_fails : {z : Lines} {l : ℕ} → z ≡ checked (claim_marked chans) k claims → z ≡ All l → 0 ≡ line_or (not_allowed (store_document n s))
-        unfolding ◌<|>◌
-        none_fails claim h =
-            let (f, q) = checked_all _ _ _ (sym flow ∙ passed) in
-            let (g, e) = checked_all _ _ _ (sym comm ∙ more) in
-            let (x, y) = checked_all _ _ _ (sym claim ∙ h) in
-            rw (parts, f, ← q, g, ← e, x)
+        claims_decide claim =
+            let (f, q) = checked_all _ _ _ flow in
+            let (g, e) = checked_all _ _ _ comm in
+            rw (claim, parts, f, ← q, g, ← e) (checked_err _ _ _)

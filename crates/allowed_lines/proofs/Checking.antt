@@ -3,45 +3,34 @@ use Prim.Native.Nat.{ℕ, suc, ◌+◌, ◌*◌, ◌≤◌, ◌<◌, ◌-◌}
 use native.Mathlib.Omega.{arith}
 use native.Mathlib.Nat.{add-zero}
 use native.Mathlib.Numerals.{add-one}
+use mathlib.Core.Bool.{Bool, true, false}
 use mathlib.Core.List.{List, [], ◌∷◌}
 use mathlib.Core.Path.{◌≡◌, refl, ap, ◌∙◌}
 use lib.ListN.{take, drop}
 use lib.Seq.{drop-drop}
 use borrow.Author.Tests.{ne_eqb}
+use Rattle.program.specs.Test.{pick}
 use Rattle.format.specs.Limits.{row_limit}
 use Rattle.format.specs.Text.{Bytes, byte_at}
 use Rattle.format.specs.Document.{Entry}
 use Rattle.calls.specs.Layout.{member_limit, with_entry, decode_sets, decode_claims}
-use Rattle.calls.proofs.Codec.Sparse.{either}
 use Rattle.store.proofs.Claims.{claims_on, claims_next}
-use Rattle.allowed_lines.specs.declared.Lines.TheVariants.{All, Failing}
-use Rattle.allowed_lines.specs.Lines.{set_at, entry_marked, claim_marked, line_code, checked}
+use Rattle.std.specs.Prelude.{None as none, Some as some, Ok, Err}
+use Rattle.allowed_lines.specs.Lines.{set_at, entry_marked, claim_marked, line_allowed, checked}
 
 -- ---- the sets of names or channels from n on
 
 module _ (keys members : Bytes) (line n : ℕ) (es : List Entry) where
-  with_none : (ms : List ℕ) → line_code keys members n ms ≡ 0 → checked (entry_marked keys members) line (with_entry n ms es) ≡ checked (entry_marked keys members) line es
-  unfolding line_code with_entry
+  with_none : (ms : List ℕ) → line_allowed keys members n ms ≡ none → checked (entry_marked keys members) line (with_entry n ms es) ≡ checked (entry_marked keys members) line es
+  unfolding line_allowed with_entry
   with_none [] h = refl
-  with_none (m ∷ ms) h =
-      either (entry_marked keys members (record { key = n; members = m ∷ ms }))
-      (λ e. absurd (omega (arith, rw e at h)))
-      (λ e. absurd (omega (arith, rw e at h)))
+  with_none (m ∷ ms) h = let z : ◌≡◌ {A = ℕ} 0 1 = cc in absurd (omega arith)
 
-  with_failing : (ms : List ℕ) → line_code keys members n ms ≡ 2 → checked (entry_marked keys members) line (with_entry n ms es) ≡ Failing line
-  unfolding line_code with_entry checked
-  with_failing [] h = absurd (omega arith)
-  with_failing (m ∷ ms) h =
-      either (entry_marked keys members (record { key = n; members = m ∷ ms }))
-      (λ e. absurd (omega (arith, rw e at h)))
-      (λ e. rw e)
-
-  with_passing : (ms : List ℕ) → (line_code keys members n ms ≡ 0 → ⊥) → (line_code keys members n ms ≡ 2 → ⊥)
-      → checked (entry_marked keys members) line (with_entry n ms es) ≡ checked (entry_marked keys members) (line + 1) es
-  unfolding line_code with_entry checked
-  with_passing [] h k = absurd (h refl)
-  with_passing (m ∷ ms) h k =
-      either (entry_marked keys members (record { key = n; members = m ∷ ms })) (λ e. rw e) (λ e. absurd (k (rw e)))
+  with_line : (ms : List ℕ) {b : Bool} → line_allowed keys members n ms ≡ some b
+      → checked (entry_marked keys members) line (with_entry n ms es) ≡ pick b (checked (entry_marked keys members) (line + 1) es) (Err line)
+  unfolding line_allowed with_entry checked
+  with_line [] h = let z : ◌≡◌ {A = ℕ} 0 1 = cc in absurd (omega arith)
+  with_line (m ∷ ms) {b} h = let e : entry_marked keys members (record { key = n; members = m ∷ ms }) ≡ b = cc in rw e
 
 abbrev pub sets_on : Bytes → ℕ → ℕ → List Entry
 sets_on s base n = decode_sets (row_limit - n) n (drop (base + n * member_limit) s)
@@ -58,18 +47,18 @@ module _ (s keys members : Bytes) (base : ℕ) where
   sets_start line = rw add-zero
 
   module _ (line n : ℕ) (l : n < row_limit) where
-    pub sets_none : line_code keys members n (set_at s (base + n * member_limit)) ≡ 0
+    pub sets_none : line_allowed keys members n (set_at s (base + n * member_limit)) ≡ none
         → checked (entry_marked keys members) line (sets_on s base n) ≡ checked (entry_marked keys members) line (sets_on s base (n + 1))
     sets_none h = ap (checked _ line) (sets_step s base n l) ∙ with_none keys members line n _ _ h
 
-    pub sets_failing : line_code keys members n (set_at s (base + n * member_limit)) ≡ 2 → checked (entry_marked keys members) line (sets_on s base n) ≡ Failing line
-    sets_failing h = ap (checked _ line) (sets_step s base n l) ∙ with_failing keys members line n _ _ h
+    pub sets_failing : {b : Bool} → line_allowed keys members n (set_at s (base + n * member_limit)) ≡ some b → b ≡ false → checked (entry_marked keys members) line (sets_on s base n) ≡ Err line
+    sets_failing h e = ap (checked _ line) (sets_step s base n l) ∙ with_line keys members line n _ _ h ∙ rw e
 
-    pub sets_passing : (line_code keys members n (set_at s (base + n * member_limit)) ≡ 0 → ⊥) → (line_code keys members n (set_at s (base + n * member_limit)) ≡ 2 → ⊥)
+    pub sets_passing : {b : Bool} → line_allowed keys members n (set_at s (base + n * member_limit)) ≡ some b → b ≡ true
         → checked (entry_marked keys members) line (sets_on s base n) ≡ checked (entry_marked keys members) (line + 1) (sets_on s base (n + 1))
-    sets_passing h k = ap (checked _ line) (sets_step s base n l) ∙ with_passing keys members line n _ _ h k
+    sets_passing h e = ap (checked _ line) (sets_step s base n l) ∙ with_line keys members line n _ _ h ∙ rw e
 
-  pub sets_end : (line n : ℕ) → row_limit ≤ n → checked (entry_marked keys members) line (sets_on s base n) ≡ All line
+  pub sets_end : (line n : ℕ) → row_limit ≤ n → checked (entry_marked keys members) line (sets_on s base n) ≡ Ok line
   unfolding decode_sets checked
   sets_end line n l = let q : row_limit - n ≡ 0 = omega arith in rw q
 
@@ -83,7 +72,7 @@ module _ (s keys : Bytes) (base : ℕ) where
     pub claims_none : byte_at s (base + c) ≡ 0 → checked (claim_marked keys) line (claims_on s base c) ≡ checked (claim_marked keys) line (claims_on s base (c + 1))
     claims_none h = rw (claims_next s base c l, h)
 
-    pub claims_failing : (byte_at s (base + c) ≡ 0 → ⊥) → byte_at keys c ≡ 0 → checked (claim_marked keys) line (claims_on s base c) ≡ Failing line
+    pub claims_failing : (byte_at s (base + c) ≡ 0 → ⊥) → byte_at keys c ≡ 0 → checked (claim_marked keys) line (claims_on s base c) ≡ Err line
     unfolding checked claim_marked
     claims_failing h k = rw (claims_next s base c l, ne_eqb (byte_at s (base + c)) 0 h, k)
 
@@ -92,6 +81,6 @@ module _ (s keys : Bytes) (base : ℕ) where
     unfolding checked claim_marked
     claims_passing h k = rw (claims_next s base c l, ne_eqb (byte_at s (base + c)) 0 h, ne_eqb (byte_at keys c) 0 k)
 
-  pub claims_end : (line c : ℕ) → row_limit ≤ c → checked (claim_marked keys) line (claims_on s base c) ≡ All line
+  pub claims_end : (line c : ℕ) → row_limit ≤ c → checked (claim_marked keys) line (claims_on s base c) ≡ Ok line
   unfolding decode_claims checked
   claims_end line c l = let q : row_limit - c ≡ 0 = omega arith in rw q

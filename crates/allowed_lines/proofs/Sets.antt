@@ -4,9 +4,9 @@ use native.Mathlib.Omega.{arith}
 use native.Mathlib.Nat.{add-zero}
 use native.Mathlib.Numerals.{add-one}
 use native.Mathlib.Decide.{dec_lt}
-use mathlib.Core.Bool.{Bool, true, false, not, ◌&&◌}
+use mathlib.Core.Bool.{Bool, true, false, not, ◌&&◌, and-true, and-false}
 use mathlib.Core.List.{List, [], ◌∷◌}
-use Rattle.std.specs.Prelude.{Some as some}
+use Rattle.std.specs.Prelude.{None as none, Some as some}
 use mathlib.Core.Path.{◌≡◌, refl, sym, ap, ◌∙◌}
 use lib.ListN.{length, set, take, drop, replicate, get_or-eq_default}
 use lib.Dec.{eqb}
@@ -28,7 +28,7 @@ use Rattle.store.proofs.Laws.{program_length, row_at_program, zeros_at}
 use Rattle.store.proofs.Claims.{part_inside, part_past}
 use Rattle.seen.specs.Flags.{flag, Tells}
 use Rattle.seen.proofs.Marking.{tells_set}
-use Rattle.allowed_lines.specs.Lines.{is_value_row, is_chan_row, marked, member_code, set_code, set_at, entry_marked, line_code}
+use Rattle.allowed_lines.specs.Lines.{is_value_row, is_chan_row, marked, member_code, set_code, set_at, entry_marked, line_allowed}
 
 -- ---- flags of the first rows
 
@@ -154,25 +154,29 @@ all_code bs m (k ∷ ms) = rw (all_code bs k ms) (more (eqb (byte_at bs m) 0) (e
     more false false = refl
 
 module _ (keys members : Bytes) (n : ℕ) where
-  pub code_other : (ms : List ℕ) → (set_code members ms ≡ 1 → ⊥) → set_code members ms ≡ line_code keys members n ms
-  unfolding set_code line_code entry_marked
-  code_other [] h = refl
-  code_other (m ∷ ms) h =
-      either (every (marked members) (m ∷ ms)) (λ e. absurd (h (all_code members m ms ∙ rw e))) λ e. all_code members m ms ∙ rw e (none (marked keys n))
+  pub allowed_none : (ms : List ℕ) → set_code members ms ≡ 0 → none ≡ line_allowed keys members n ms
+  unfolding line_allowed
+  allowed_none [] h = refl
+  allowed_none (m ∷ ms) h = absurd (above (every (marked members) (m ∷ ms)) (sym (all_code members m ms) ∙ h))
     where
-      none : (b : Bool) → ◌≡◌ {A = ℕ} 2 (pick (b && false) 1 2)
-      none true = refl
-      none false = refl
+      above : (b : Bool) → ◌≡◌ {A = ℕ} (pick b 1 2) 0 → ⊥
+      above true e = omega arith
+      above false e = omega arith
 
-  pub code_key : (ms : List ℕ) → set_code members ms ≡ 1 → line_code keys members n ms ≡ pick (marked keys n) 1 2
-  unfolding set_code line_code entry_marked
-  code_key [] h = absurd (omega arith)
-  code_key (m ∷ ms) h =
-      either (every (marked members) (m ∷ ms)) (λ e. rw e (same (marked keys n))) λ e. absurd (two (sym (all_code members m ms ∙ rw e) ∙ h))
+  pub allowed_key : (ms : List ℕ) → set_code members ms ≡ 1 → some (marked keys n) ≡ line_allowed keys members n ms
+  unfolding set_code line_allowed entry_marked
+  allowed_key [] h = absurd (omega arith)
+  allowed_key (m ∷ ms) h = rw (passed (every (marked members) (m ∷ ms)) (sym (all_code members m ms) ∙ h), and-true)
     where
-      same : (b : Bool) → ◌≡◌ {A = ℕ} (pick (b && true) 1 2) (pick b 1 2)
-      same true = refl
-      same false = refl
+      passed : (b : Bool) → ◌≡◌ {A = ℕ} (pick b 1 2) 1 → b ≡ true
+      passed true e = refl
+      passed false e = absurd (omega arith)
 
-      two : ◌≡◌ {A = ℕ} 2 1 → ⊥
-      two q = omega arith
+  pub allowed_other : (ms : List ℕ) → (set_code members ms ≡ 0 → ⊥) → (set_code members ms ≡ 1 → ⊥) → some false ≡ line_allowed keys members n ms
+  unfolding set_code line_allowed entry_marked
+  allowed_other [] h k = absurd (h refl)
+  allowed_other (m ∷ ms) h k = rw (failed (every (marked members) (m ∷ ms)) λ e. k (all_code members m ms ∙ e), and-false)
+    where
+      failed : (b : Bool) → (◌≡◌ {A = ℕ} (pick b 1 2) 1 → ⊥) → b ≡ false
+      failed true f = absurd (f refl)
+      failed false f = refl

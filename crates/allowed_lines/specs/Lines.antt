@@ -1,5 +1,5 @@
 -- Which members, names and rows the flow, comm and claim lines may name, as flags, and what checking the lines finds.
-use Rattle.std.specs.Prelude.{ℕ, ◌+◌, max, Bool, false, not, ◌&&◌, List, [], ◌∷◌, take, drop, eqb}
+use Rattle.std.specs.Prelude.{ℕ, ◌+◌, max, Option, None as none, Some as some, Result, Ok, Err, Bool, false, not, ◌&&◌, List, [], ◌∷◌, take, drop, eqb}
 use Rattle.program.specs.declared.Row.{Row}
 use Rattle.program.specs.Test.{pick}
 use Rattle.program.specs.Each.{every}
@@ -7,8 +7,6 @@ use Rattle.program.specs.Program.{is_value, is_chan}
 use Rattle.format.specs.Text.{Bytes, byte_at}
 use Rattle.format.specs.Document.{Entry, Claim}
 use Rattle.calls.specs.Layout.{member_limit, members_from}
-use Rattle.allowed_lines.specs.declared.Lines.{Lines}
-use Rattle.allowed_lines.specs.declared.Lines.TheVariants.{All, Failing}
 
 abbrev pub is_value_row : Row → Bool
 is_value_row (Row.Result n) = false
@@ -41,12 +39,12 @@ entry_marked keys members e = marked keys e.key && every (marked members) e.memb
 unfoldable pub claim_marked : Bytes → Claim → Bool
 claim_marked keys c = marked keys c.channel
 
--- the set of key n: 0 if it has no member and so no line, 1 if it is allowed, 2 if it is not
-unfoldable pub line_code : Bytes → Bytes → ℕ → List ℕ → ℕ
-line_code keys members n [] = 0
-line_code keys members n (m ∷ ms) = pick (entry_marked keys members (record { key = n; members = m ∷ ms })) 1 2
+-- the set of key n: none if it has no member and so no line, else whether it is allowed
+unfoldable pub line_allowed : Bytes → Bytes → ℕ → List ℕ → Option Bool
+line_allowed keys members n [] = none
+line_allowed keys members n (m ∷ ms) = some (entry_marked keys members (record { key = n; members = m ∷ ms }))
 
--- the line of the first that fails the test, else the line after the last
-unfoldable pub checked : {A : Type 0} → (A → Bool) → ℕ → List A → Lines
-checked ok line [] = All line
-checked ok line (x ∷ xs) = pick (ok x) (checked ok (line + 1) xs) (Failing line)
+-- the line after the last, or the line of the first that fails the test
+unfoldable pub checked : {A : Type 0} → (A → Bool) → ℕ → List A → Result ℕ ℕ
+checked ok line [] = Ok line
+checked ok line (x ∷ xs) = pick (ok x) (checked ok (line + 1) xs) (Err line)

@@ -1,34 +1,39 @@
 -- What makes a row's pointers wrong: rows that it may not point at, rows pointed at earlier, and being lost.
-use Prim.Native.Nat.{ℕ, ◌<◌, max}
+use Prim.Native.Nat.{ℕ, ◌+◌, ◌<◌}
 use native.Mathlib.Omega.{arith}
-use mathlib.Core.Bool.{Bool, true, false, not, ◌&&◌, ◌||◌, or-false}
+use mathlib.Core.Bool.{Bool, true, false, not, ◌&&◌, ◌||◌, or-false, or_assoc, false≢true}
 use mathlib.Core.List.{List, [], ◌∷◌, ◌++◌}
-use lib.ListN.{drop, take-append-drop}
-use mathlib.Core.Path.{◌≡◌, refl, sym, ap, ap₂, ◌∙◌}
+use lib.ListN.{length, get_or, take, drop, take-append-drop}
+use mathlib.Core.Path.{◌≡◌, refl, sym, ap, ◌∙◌}
 use lib.Dec.{ltb}
+use Rattle.std.proofs.lemmas.List.{take_more}
 use Rattle.program.specs.Each.{collect, elem}
 use Rattle.program.specs.Program.{pointers}
+use Rattle.program.proofs.Test.{or_neither}
 use Rattle.program.proofs.Each.{collect-append, elem-append}
 use Rattle.format.specs.Text.{Bytes}
 use Rattle.format.specs.Structure.{wrong_pointers, pointer_fault, bound_earlier}
 use Rattle.store.specs.Rows.{store_row, store_program}
 use Rattle.store.proofs.Laws.{program_length, row_at_program}
-use Rattle.seen.specs.Flags.{flag}
 use Rattle.seen.specs.Seen.{Marks, Adds}
-use Rattle.seen.proofs.Marking.{flag_or, flag_clear}
 use Rattle.seen.proofs.Smallest.{rows_before, again_row}
 use Rattle.pointers.specs.Strays.{stray, strays}
 
 -- ---- rows that a row may not point at
 
-module _ (n r a : ℕ) where
-  pub strays_one : {m : ℕ} → m ≡ flag (stray n r a) → m ≡ flag (strays n r (a ∷ []))
+module _ (n r : ℕ) where
+  pub strays_none : false ≡ strays n r []
   unfolding strays
-  strays_one e = e ∙ ap flag (sym (or-false (stray n r a)))
+  strays_none = refl
 
-  pub strays_more : (ts : List ℕ) {m j k : ℕ} → j ≡ flag (stray n r a) → k ≡ flag (strays n r ts) → m ≡ max j k → m ≡ flag (strays n r (a ∷ ts))
+  at_end : (xs : List ℕ) (t : ℕ) → strays n r (xs ++ (t ∷ [])) ≡ (strays n r xs || stray n r t)
   unfolding strays
-  strays_more ts e q h = h ∙ ap₂ max e q ∙ sym (flag_or (stray n r a) (strays n r ts))
+  at_end [] t = or-false (stray n r t)
+  at_end (x ∷ xs) t = rw (at_end xs t) (sym (or_assoc (stray n r x) (strays n r xs) (stray n r t)))
+
+  -- one row more of a list
+  pub strays_more : (ts : List ℕ) (i : ℕ) {b c : Bool} → i < length ts → b ≡ strays n r (take i ts) → c ≡ stray n r (get_or ts i 0) → (b || c) ≡ strays n r (take (i + 1) ts)
+  strays_more ts i l e q = rw (e, q, take_more ts i 0 l) (sym (at_end (take i ts) (get_or ts i 0)))
 
 -- ---- a row with a fault
 
@@ -46,15 +51,13 @@ wrong_parts n r earlier (t ∷ ts) =
     swapped false false c d = refl
 
 module _ (n : ℕ) (s : Bytes) (r : ℕ) (h : r < n) where
-  pointer_fault_is : flag (pointer_fault (store_program n s) r)
-      ≡ max (flag (bound_earlier (collect pointers (store_program r s)) (pointers (store_row s r))))
-      (max (flag (strays n r (pointers (store_row s r)))) (flag (ltb 0 r && not (elem r (collect pointers (store_program n s))))))
+  pointer_fault_is : pointer_fault (store_program n s) r
+      ≡ (bound_earlier (collect pointers (store_program r s)) (pointers (store_row s r)) || strays n r (pointers (store_row s r)) || (ltb 0 r && not (elem r (collect pointers (store_program n s)))))
   unfolding pointer_fault
-  pointer_fault_is =
-      rw (rows_before n r s (omega arith), row_at_program n s r h, program_length n s, wrong_parts, flag_or, flag_or) (omega arith)
+  pointer_fault_is = rw (rows_before n r s (omega arith), row_at_program n s r h, program_length n s, wrong_parts)
 
   -- a row that an earlier row points at is not lost
-  earlier_found : flag (ltb 0 r && not (elem r (collect pointers (store_program r s)))) ≡ 0 → flag (ltb 0 r && not (elem r (collect pointers (store_program n s)))) ≡ 0
+  earlier_found : (ltb 0 r && not (elem r (collect pointers (store_program r s)))) ≡ false → (ltb 0 r && not (elem r (collect pointers (store_program n s)))) ≡ false
   earlier_found e = rw more (go (ltb 0 r) (elem r (collect pointers (store_program r s))) (elem r (collect pointers (drop r (store_program n s)))) e)
     where
       more : elem r (collect pointers (store_program n s)) ≡ (elem r (collect pointers (store_program r s)) || elem r (collect pointers (drop r (store_program n s))))
@@ -63,18 +66,22 @@ module _ (n : ℕ) (s : Bytes) (r : ℕ) (h : r < n) where
           ∙ ap (λ p. elem r (collect pointers (p ++ drop r (store_program n s)))) (rows_before n r s (omega arith))
           ∙ rw (collect-append, elem-append)
 
-      go : (a b c : Bool) → flag (a && not b) ≡ 0 → flag (a && not (b || c)) ≡ 0
+      go : (a b c : Bool) → (a && not b) ≡ false → (a && not (b || c)) ≡ false
       go true true c q = refl
-      go true false c q = absurd (omega arith)
+      go true false c q = absurd (false≢true (sym q))
       go false b c q = refl
 
   -- the same by what the loop has at the row: what was seen before it and with it
-  module _ (a b : Bytes) (ns : List ℕ) {again : ℕ} (adds : Adds a ns b again) (e : ns ≡ pointers (store_row s r)) (m : Marks (collect pointers (store_program r s)) a) {stray : ℕ} (p : stray ≡ flag (strays n r ns)) where
-    pub pointer_row : {lost : ℕ} → lost ≡ flag (ltb 0 r && not (elem r (collect pointers (store_program n s))))
-        → max again (max stray lost) ≡ flag (pointer_fault (store_program n s) r)
+  module _ (a b : Bytes) (ns : List ℕ) {again : Bool} (adds : Adds a ns b again) (e : ns ≡ pointers (store_row s r)) (m : Marks (collect pointers (store_program r s)) a) {stray : Bool} (p : stray ≡ strays n r ns) where
+    pub pointer_row : {lost : Bool} → lost ≡ (ltb 0 r && not (elem r (collect pointers (store_program n s)))) → (again || stray || lost) ≡ pointer_fault (store_program n s) r
     pointer_row q = rw (p, q, e, again_row pointers r s a b ns adds e m) (sym pointer_fault_is)
 
+    pub row_amiss : {lost : Bool} → lost ≡ (ltb 0 r && not (elem r (collect pointers (store_program n s)))) → (again || stray || lost) ≡ true → pointer_fault (store_program n s) r ≡ true
+    row_amiss q f = sym (pointer_row q) ∙ f
+
     -- in order: nothing is wrong where the row is pointed at from an earlier row
-    pub row_in_order : {lost : ℕ} → lost ≡ flag (ltb 0 r && not (elem r (collect pointers (store_program r s))))
-        → max again (max stray lost) ≡ 0 → pointer_fault (store_program n s) r ≡ false
-    row_in_order q f = flag_clear _ (omega (arith, pointer_row refl, earlier_found (omega arith)))
+    pub row_in_order : {lost : Bool} → lost ≡ (ltb 0 r && not (elem r (collect pointers (store_program r s)))) → (again || stray || lost) ≡ false → pointer_fault (store_program n s) r ≡ false
+    row_in_order {lost} q f =
+        let (found, here) = or_neither (again || stray) lost f in
+        let (none, near) = or_neither again stray found in
+        sym (pointer_row refl) ∙ rw (none, near) (earlier_found (sym q ∙ here))

@@ -9,6 +9,7 @@ use lib.ListN.{length, set, get_or-eq_default}
 use lib.Seq.{get_or-set_same, get_or-set_other}
 use lib.Dec.{ltb}
 use borrow.Author.Tests.{ltb-true}
+use Rattle.std.specs.List.{list_all, range_with_len}
 use Rattle.program.specs.declared.Row.{Row}
 use Rattle.program.specs.declared.Bind.{Bind}
 use Rattle.program.specs.Maybe.{when}
@@ -17,7 +18,6 @@ use Rattle.program.proofs.Test.{and_left, and_right}
 use Rattle.format.specs.Text.{Bytes, byte_at}
 use Rattle.store.specs.Rows.{store_program}
 use Rattle.store.proofs.Laws.{program_length}
-use Rattle.forms.proofs.Forms.{row_past}
 use Rattle.results.specs.Results.{rest_rises, Rising, ResultsFrom, ResultRows}
 
 module _ (p : Program) where
@@ -35,6 +35,10 @@ module _ (p : Program) where
   unfolding result_from
   result_step zero r l e = absurd (omega arith)
   result_step (suc k) r l e = rw (e, sub-one, result_from)
+
+  -- one step of n, where i are done
+  pub follow_step : (n i r : ℕ) {b : Bind} → i < n → row_at p r ≡ Row.Bind b → result_from (n - i) p r ≡ result_from (n - (i + 1)) p b.rest
+  follow_step n i r {b} l e = let q : n - i - 1 ≡ n - (i + 1) = omega arith in result_step (n - i) r (omega arith) e ∙ ap (λ k. result_from k p b.rest) q
 
   -- the rest of a bind, where it rises
   pub rises_to : (r : ℕ) {b : Bind} → row_at p r ≡ Row.Bind b → rest_rises p r ≡ true → (r < b.rest) × (b.rest < length p)
@@ -88,17 +92,17 @@ module _ {p : Program} {n : ℕ} where
 -- ---- rests that rise
 
 module _ (p : Program) where
-  pub rising_none : Rising p 0
-  unfolding Rising
-  rising_none r l = absurd (omega arith)
-
-  pub rising_more : (n : ℕ) → Rising p n → rest_rises p n ≡ true → Rising p (n + 1)
-  unfolding Rising
-  rising_more n h e r l =
-      elim (ℕ_discrete r n) [
-        | yes q ↦ rw q e
-        | no d ↦ h r (omega arith)
+  listed : (from n : ℕ) → list_all (rest_rises p) (range_with_len from n) ≡ true → (r : ℕ) → from ≤ r → r < from + n → rest_rises p r ≡ true
+  listed from zero h r l m = absurd (omega arith)
+  listed from (suc n) h r l m =
+      elim (ℕ_discrete r from) [
+        | yes q ↦ rw q (and_left (rest_rises p from) _ h)
+        | no d ↦ listed (from + 1) n (and_right (rest_rises p from) _ h) r (omega arith) (omega arith)
       ]
+
+  pub rising_listed : (n : ℕ) → list_all (rest_rises p) (range_with_len 0 n) ≡ true → Rising p n
+  unfolding Rising
+  rising_listed n h r l = listed 0 n h r (omega arith) (omega arith)
 
   pub rising_all : {n m : ℕ} → n ≤ m → Rising p m → Rising p n
   unfolding Rising

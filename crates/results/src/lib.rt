@@ -12,18 +12,16 @@ use program::Row;
 use store::Store;
 
 // The result row that is reached from row t, rest by rest.
-#[tactic(auto, using(crate::proofs::Following::result_none, crate::proofs::Following::result_end, crate::proofs::Following::result_step, crate::proofs::Following::result_steps))]
+#[tactic(auto, using(crate::proofs::Following::result_none, crate::proofs::Following::result_end, crate::proofs::Following::follow_step, crate::proofs::Following::result_steps))]
 fn follow(store: &[u8], rows: u8, t: u8) -> u8
     ensures { result ≡ result_row (store_program rows store.now) t }
 {
     let mut r = t;
-    let mut left = rows;
-    while 0 < left {
+    for _ in 0..rows {
         let Row::Bind(b) = row_in(store, rows, r) else {
             return r;
         };
         r = b.rest;
-        left -= 1;
     }
     r
 }
@@ -36,27 +34,14 @@ fn rest_rises(store: &[u8], rows: u8, r: u8) -> bool
     let Row::Bind(b) = row_in(store, rows, r) else {
         return true;
     };
-    let rest = b.rest;
-    if rest <= r {
-        return false;
-    }
-    rest < rows
+    r < b.rest && b.rest < rows
 }
 
 // Whether all rests rise.
-#[tactic(auto, using(crate::proofs::Following::rising_none, crate::proofs::Following::rising_more, crate::proofs::Following::rising_all))]
 fn rests_rise(store: &[u8], rows: u8) -> bool
     ensures { result ≡ true → Rising (store_program rows store.now) rows }
 {
-    let mut r = 0;
-    while r < rows {
-        if rest_rises(store, rows, r) {
-            r += 1;
-        } else {
-            return false;
-        }
-    }
-    true
+    (0..rows).all(|r| rest_rises(store, rows, r))
 }
 
 // The result row of row t, told by those of the greater rows, where all rests rise.
@@ -70,8 +55,7 @@ fn from_rest(store: &[u8], rows: u8, results: &[u8], t: u8) -> u8
     let Row::Bind(b) = row_in(store, rows, t) else {
         return t;
     };
-    let rest = b.rest;
-    read_text::byte_at(results, rest as usize)
+    read_text::byte_at(results, b.rest as usize)
 }
 
 // The result row of row t: told by those of the greater rows if all rests rise, else rest by rest.
@@ -94,11 +78,8 @@ pub fn result_rows(store: &[u8], rows: u8) -> [u8; Store::ROWS]
 {
     let rising = rests_rise(store, rows);
     let mut results = [0u8; Store::ROWS];
-    let mut t = rows;
-    while 0 < t {
-        t -= 1;
-        let r = result_at(store, rows, rising, &results, t);
-        results[t as usize] = r;
+    for t in (0..rows).rev() {
+        results[t as usize] = result_at(store, rows, rising, &results, t);
     }
     results
 }

@@ -1,93 +1,105 @@
 // The rows that a row points at, and the names that it binds: three at most, in their order.
 #![tactic(auto)]
 
-ghost use Rattle.std.specs.Prelude.{◌≡◌, [], ◌∷◌, ◌++◌};
+ghost use Rattle.std.specs.Prelude.{◌≡◌, ◌≤◌, ◌<◌, [], ◌∷◌, ◌++◌, List, ℕ, length, take};
 ghost use Rattle.program.specs.Program.{rows_of, binders_of, pointers, binders};
-ghost use Rattle.row_numbers.specs.Numbers.{numbers_of};
 
 use program::{Form, Row};
+use std::marker::Model;
+
+// How many numbers there are at most.
+const MOST: usize = 3;
 
 // Up to three numbers.
-#[derive(Clone, Copy)]
-pub enum Few {
-    Zero,
-    One(u8),
-    Two(u8, u8),
-    Three(u8, u8, u8),
+#[derive(Drop)]
+pub struct Few {
+    numbers: [u8; MOST],
+    len: usize,
 }
 
-// The rows that a form points at, then the rest.
-fn rows_of(form: Form, rest: u8) -> Few
-    ensures { numbers_of result ≡ rows_of form ++ (rest ∷ []) }
+impl Model for Few {
+    ghost Value = { List ℕ };
+
+    ghost view = { λ few. take few.len few.numbers };
+
+    ghost invariant = { λ few. few.len ≤ 3 };
+}
+
+impl Few {
+    // No number.
+    fn new() -> Self
+        ensures { result ≡ [] }
+    {
+        Few {
+            numbers: [0; MOST],
+            len: 0,
+        }
+    }
+
+    // The same numbers and one more.
+    fn and(mut self, n: u8) -> Self
+        requires { length self < 3 }
+        ensures { result ≡ self ++ (n ∷ []) }
+    {
+        self.numbers[self.len] = n;
+        self.len += 1;
+        self
+    }
+
+    pub fn numbers(&self) -> &[u8]
+        ensures { result.now ≡ self.now }
+    {
+        &self.numbers[..self.len]
+    }
+}
+
+// The rows that a form points at.
+fn rows_of(form: Form) -> Few
+    ensures rows { result ≡ rows_of form }
+    ensures few { length result ≤ 2 }
 {
     match form {
-        Form::Unit => Few::One(rest),
-        Form::Chan => Few::One(rest),
-        Form::Send { .. } => Few::One(rest),
-        Form::Recv { .. } => Few::One(rest),
-        Form::Pair { .. } => Few::One(rest),
-        Form::Left { .. } => Few::One(rest),
-        Form::Right { .. } => Few::One(rest),
-        Form::Fun { body, .. } => Few::Two(body, rest),
-        Form::Spawn { child } => Few::Two(child, rest),
-        Form::Sync { .. } => Few::One(rest),
-        Form::First { .. } => Few::One(rest),
-        Form::Second { .. } => Few::One(rest),
-        Form::Case { left, right, .. } => Few::Three(left, right, rest),
-        Form::Apply { .. } => Few::One(rest),
+        Form::Fun { body, .. } => Few::new().and(body),
+        Form::Spawn { child } => Few::new().and(child),
+        Form::Case { left, right, .. } => Few::new().and(left).and(right),
+        _ => Few::new(),
     }
 }
 
 // The rows that a row points at.
 #[tactic(auto, unfolding(program::specs::Program::pointers))]
 pub fn pointers_of(row: Row) -> Few
-    ensures { numbers_of result ≡ pointers row }
+    ensures { result ≡ pointers row }
 {
     match row {
-        Row::Result(_) => Few::Zero,
-        Row::Bind(b) => {
-            let form = b.form;
-            rows_of(form, b.rest)
-        }
+        Row::Result(_) => Few::new(),
+        Row::Bind(b) => rows_of(b.form).and(b.rest),
     }
 }
 
 // A name, then the names that a form binds.
 fn names_of(name: u8, form: Form) -> Few
-    ensures { numbers_of result ≡ name ∷ binders_of form }
+    ensures { result ≡ name ∷ binders_of form }
 {
+    let names = Few::new().and(name);
     match form {
-        Form::Unit => Few::One(name),
-        Form::Chan => Few::One(name),
-        Form::Send { .. } => Few::One(name),
-        Form::Recv { .. } => Few::One(name),
-        Form::Pair { .. } => Few::One(name),
-        Form::Left { .. } => Few::One(name),
-        Form::Right { .. } => Few::One(name),
-        Form::Fun { own, parameter, .. } => Few::Three(name, own, parameter),
-        Form::Spawn { .. } => Few::One(name),
-        Form::Sync { .. } => Few::One(name),
-        Form::First { .. } => Few::One(name),
-        Form::Second { .. } => Few::One(name),
+        Form::Fun { own, parameter, .. } => names.and(own).and(parameter),
         Form::Case {
             left_name,
             right_name,
             ..
-        } => Few::Three(name, left_name, right_name),
-        Form::Apply { .. } => Few::One(name),
+        } => names.and(left_name).and(right_name),
+        _ => names,
     }
 }
 
 // The names that a row binds.
 #[tactic(auto, unfolding(program::specs::Program::binders))]
 pub fn binders_of(row: Row) -> Few
-    ensures { numbers_of result ≡ binders row }
+    ensures { result ≡ binders row }
 {
     match row {
-        Row::Result(_) => Few::Zero,
-        Row::Bind(b) => {
-            let form = b.form;
-            names_of(b.name, form)
-        }
+        Row::Result(_) => Few::new(),
+        Row::Bind(b) => names_of(b.name, b.form),
     }
 }

@@ -3,6 +3,7 @@ use Prim.Native.Nat.{ℕ, zero, suc, ◌+◌, ◌*◌, ◌-◌, ◌≤◌, ◌<�
 use native.Mathlib.Omega.{arith}
 use native.Mathlib.Nat.{sub-zero}
 use native.Mathlib.Decide.{dec_lt, dec_le}
+use Rattle.std.specs.Prelude.{None as none, Some as some}
 use mathlib.Core.Path.{◌≡◌, refl, sym, ap, ap₂, ◌∙◌}
 use lib.ListN.{length}
 use borrow.Author.Tests.{lt-ltb, le-ltb, le-leb, lt-leb}
@@ -12,6 +13,7 @@ use Rattle.program.specs.declared.Row.{Row}
 use Rattle.program.specs.Program.{Program, row_at}
 use Rattle.format.specs.Text.{Bytes}
 use Rattle.format.specs.Limits.{row_limit}
+use Rattle.format.specs.Structure.{scope_line}
 use Rattle.format.specs.Scope.{Scope, no_names, with_name, use_fault, row_fault, form_fault, scope_fault}
 use Rattle.store.specs.Rows.{store_row, store_program}
 use Rattle.store.proofs.Laws.{program_length, row_at_program}
@@ -125,6 +127,16 @@ module _ (n : ℕ) (s : Bytes) (from r : ℕ) (scope : Scope) where
       (row_within p from r scope (suc k) l (omega arith)
       ∙ step_agrees k j p r (enough k j p (r + 1) (omega arith) (omega arith)) (suc k) j (row_at p r) scope (enough (suc k) j p (r + 1) (omega arith) (omega arith)))
 
-pub scope_all : (n : ℕ) (s : Bytes) → scope_fault (store_program n s) ≡ row_fault (2 * (n - 0) + 1) (store_program n s) 0 0 no_names
+scope_all : (n : ℕ) (s : Bytes) → scope_fault (store_program n s) ≡ row_fault (2 * (n - 0) + 1) (store_program n s) 0 0 no_names
 unfolding scope_fault
 scope_all n s = rw (program_length n s, sub-zero)
+
+-- the row of all rows, or none
+module _ (n : ℕ) (s : Bytes) {r : ℕ} (e : r ≡ row_fault (2 * (n - 0) + 1) (store_program n s) 0 0 no_names) where
+  pub line_is : r < n → some r ≡ scope_line (store_program n s)
+  unfolding scope_line
+  line_is l = rw (scope_all n s, ← e, program_length n s, lt-ltb r n l)
+
+  pub line_none : n ≤ r → none ≡ scope_line (store_program n s)
+  unfolding scope_line
+  line_none l = rw (scope_all n s, ← e, program_length n s, le-ltb r n l)

@@ -2,19 +2,17 @@
 #![tactic(auto)]
 
 ghost use Rattle.std.specs.Prelude.{◌≡◌, get_or, set, ◌+◌, ◌*◌, ◌-◌, ◌<◌, min};
-ghost use Rattle.format.specs.Scope.{use_fault, row_fault, form_fault, scope_fault};
+ghost use Rattle.format.specs.Scope.{use_fault, row_fault, form_fault};
+ghost use Rattle.format.specs.Structure.{scope_line};
 ghost use Rattle.store.specs.Rows.{store_program};
 
 use program::{Form, Row};
-use store::{NO_ROW, Store};
+use store::Store;
 use stored_rows::row_at;
 
-// The smaller number.
-fn least(a: u8, b: u8) -> u8
-    ensures { result ≡ min a b }
-{
-    if a < b { a } else { b }
-}
+// No row: what the cycle below answers where it finds none. An Option<u8> and its branches in each step would need more stack,
+// and the frames of the cycle, two for a row of 160, are most of what a call may use.
+const NO_ROW: u8 = Store::ROWS as u8;
 
 // Row r if its name n is not in scope, else NO_ROW.
 #[tactic(auto, unfolding(format::specs::Scope::use_fault))]
@@ -59,18 +57,18 @@ fn scope_row(store: &[u8], rows: u8, from: u8, r: u8, scope: &mut [u8; Store::NA
     match row_at(store, r) {
         Row::Result(n) => use_of(r, n, scope),
         Row::Bind(b) => {
-            let form = b.form;
             let old = put_name(scope, b.name, 1);
             let below = scope_row(store, rows, r + 1, b.rest, scope);
             put_name(scope, b.name, old);
-            let here = scope_form(store, rows, r, form, scope);
-            least(here, below)
+            let here = scope_form(store, rows, r, b.form, scope);
+            here.min(below)
         }
     }
 }
 
 // The same of row r's form.
 #[cycle(scope_form_scope_row)]
+#[tactic(auto, using(crate::proofs::Fuel::form_fuel), unfolding(format::specs::Scope::form_fault))]
 fn scope_form(store: &[u8], rows: u8, r: u8, form: Form, scope: &mut [u8; Store::NAMES]) -> u8
     requires { r < rows }
     ensures fault { result ≡ form_fault (2 * (rows - r)) (store_program rows store.now) r form scope.old }
@@ -79,12 +77,9 @@ fn scope_form(store: &[u8], rows: u8, r: u8, form: Form, scope: &mut [u8; Store:
     match form {
         Form::Unit => NO_ROW,
         Form::Chan => NO_ROW,
-        Form::Send { channel, message } => least(
-            use_of(r, channel, scope),
-            use_of(r, message, scope),
-        ),
+        Form::Send { channel, message } => use_of(r, channel, scope).min(use_of(r, message, scope)),
         Form::Recv { channel } => use_of(r, channel, scope),
-        Form::Pair { first, second } => least(use_of(r, first, scope), use_of(r, second, scope)),
+        Form::Pair { first, second } => use_of(r, first, scope).min(use_of(r, second, scope)),
         Form::Left { value } => use_of(r, value, scope),
         Form::Right { value } => use_of(r, value, scope),
         Form::Fun {
@@ -117,19 +112,20 @@ fn scope_form(store: &[u8], rows: u8, r: u8, form: Form, scope: &mut [u8; Store:
             let old_right = put_name(scope, right_name, 1);
             let in_right = scope_row(store, rows, r + 1, right, scope);
             put_name(scope, right_name, old_right);
-            least(here, least(in_left, in_right))
+            here.min(in_left.min(in_right))
         }
-        Form::Apply { function, argument } => least(
-            use_of(r, function, scope),
-            use_of(r, argument, scope),
-        ),
+        Form::Apply { function, argument } => use_of(r, function, scope).min(use_of(
+            r, argument, scope,
+        )),
     }
 }
 
-// The smallest of the first rows of a store with a use out of scope, or NO_ROW.
-pub fn scope_fault(store: &[u8], rows: u8) -> u8
-    ensures { result ≡ scope_fault (store_program rows store.now) }
+// The smallest of the first rows of a store with a use out of scope.
+#[tactic(auto, using(crate::proofs::Fuel::line_is, crate::proofs::Fuel::line_none))]
+pub fn scope_fault(store: &[u8], rows: u8) -> Option<u8>
+    ensures { result ≡ scope_line (store_program rows store.now) }
 {
     let mut scope = [0; Store::NAMES];
-    scope_row(store, rows, 0, 0, &mut scope)
+    let r = scope_row(store, rows, 0, 0, &mut scope);
+    if r < rows { Some(r) } else { None }
 }

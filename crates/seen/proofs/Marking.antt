@@ -1,14 +1,15 @@
 -- Flags as numbers, and marks: what one number more changes, and numbers one after the other.
-use Prim.Native.Nat.{ℕ, max, ◌<◌}
+use Prim.Native.Nat.{ℕ, ◌+◌, ◌<◌}
 use native.Mathlib.Omega.{arith}
 use native.Mathlib.Decide.{ℕ_discrete}
-use mathlib.Core.Bool.{Bool, true, false, ◌||◌, or_assoc, or-true, or-false}
+use mathlib.Core.Bool.{Bool, true, false, not, ◌||◌, or_assoc, or-true, or-false}
 use mathlib.Core.List.{List, [], ◌∷◌, ◌++◌, append_assoc, append-nil}
 use mathlib.Core.Path.{◌≡◌, refl, ap, ◌∙◌}
-use lib.ListN.{length, set, replicate, length-set, length-replicate}
+use lib.ListN.{length, get_or, take, set, replicate, length-set, length-replicate}
 use lib.Seq.{get_or-set_same, get_or-set_other}
 use lib.Dec.{eqb}
 use borrow.Author.Tests.{ne_eqb}
+use Rattle.std.proofs.lemmas.List.{take_more}
 use Rattle.program.specs.Each.{elem}
 use Rattle.program.proofs.Test.{eqb_same}
 use Rattle.program.proofs.Each.{elem-append}
@@ -19,11 +20,6 @@ use Rattle.seen.specs.Seen.{number_count, Marks, Adds}
 use Rattle.store.proofs.Laws.{zeros_at}
 
 -- ---- flags
-
-pub flag_or : (a b : Bool) → flag (a || b) ≡ max (flag a) (flag b)
-flag_or true true = refl
-flag_or true false = refl
-flag_or false b = omega arith
 
 pub flag_set : (b : Bool) → (flag b ≡ 0 → ⊥) → b ≡ true
 flag_set true h = refl
@@ -84,24 +80,25 @@ marks_one marks xs n l h =
 
 -- ---- numbers one after the other
 
-pub adds_none : (a : Bytes) → Adds a [] a 0
+pub adds_none : (a : Bytes) → Adds a [] a false
 unfolding bound_earlier
 adds_none a = record { marks = λ xs h. rw append-nil h; again = λ xs h. refl }
 
-pub adds_one : (a : Bytes) (n : ℕ) → n < number_count → Adds a (n ∷ []) (set a n 1) (byte_at a n)
+pub adds_one : (a : Bytes) (n : ℕ) {again : Bool} → n < number_count → again ≡ not (eqb (byte_at a n) 0) → Adds a (n ∷ []) (set a n 1) again
 unfolding bound_earlier
-adds_one a n l = record { marks = λ xs h. marks_one a xs n l h; again = λ xs h. h.tells.at n ∙ rw or-false }
+adds_one a n l e = record { marks = λ xs h. marks_one a xs n l h; again = λ xs h. rw (e, h.tells.at n) (is (elem n xs)) }
+  where
+    is : (b : Bool) → not (eqb (flag b) 0) ≡ (b || false)
+    is true = refl
+    is false = refl
 
-pub adds_then : {a b c : Bytes} {ns ms : List ℕ} {i j k : ℕ} → Adds a ns b i → Adds b ms c j → k ≡ max i j → Adds a (ns ++ ms) c k
-adds_then {a} {b} {c} {ns} {ms} h k e =
+adds_then : {a b c : Bytes} {ns ms : List ℕ} {i j : Bool} → Adds a ns b i → Adds b ms c j → Adds a (ns ++ ms) c (i || j)
+adds_then {a} {b} {c} {ns} {ms} h k =
     record {
       marks = λ xs m. rw (← append_assoc) (k.marks (xs ++ ns) (h.marks xs m));
-      again = λ xs m. omega (
-        arith,
-        e,
-        k.again (xs ++ ns) (h.marks xs m),
-        h.again xs m,
-        ap flag (bound_append xs ns ms),
-        flag_or (bound_earlier xs ns) (bound_earlier (xs ++ ns) ms),
-      );
+      again = λ xs m. rw (bound_append xs ns ms, ← (h.again xs m), ← (k.again (xs ++ ns) (h.marks xs m))) refl;
     }
+
+-- one number more of a list
+pub adds_more : {a b c : Bytes} (ns : List ℕ) (k : ℕ) {i j : Bool} → k < length ns → Adds a (take k ns) b i → Adds b (get_or ns k 0 ∷ []) c j → Adds a (take (k + 1) ns) c (i || j)
+adds_more ns k l h m = rw (take_more ns k 0 l) (adds_then h m)

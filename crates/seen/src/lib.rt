@@ -2,44 +2,30 @@
 #![tactic(auto)]
 
 ghost use Rattle.std.specs.Prelude.{[], ◌∷◌};
-ghost use Rattle.row_numbers.specs.Numbers.{numbers_of};
 ghost use Rattle.seen.specs.Seen.{Adds};
-
-use byte_order::larger;
-use row_numbers::Few;
 
 // Every u8 can be seen.
 pub const NUMBERS: usize = 256;
 
-// One number more: 1 if it was seen already, else 0.
+// One number more: whether it was seen already.
 #[tactic(auto, using(crate::proofs::Marking::adds_one))]
-fn see(marks: &mut [u8; NUMBERS], n: u8) -> u8
+fn see(marks: &mut [u8; NUMBERS], n: u8) -> bool
     ensures { Adds marks.old (n ∷ []) marks.new result }
 {
     let i = n as usize;
-    let again = marks[i];
+    let again = marks[i] != 0;
     marks[i] = 1;
     again
 }
 
-// The numbers of a list more, in their order: 1 if one was seen already, else 0.
-#[tactic(auto, using(crate::proofs::Marking::adds_none, crate::proofs::Marking::adds_then))]
-pub fn see_few(marks: &mut [u8; NUMBERS], few: Few) -> u8
-    ensures { Adds marks.old (numbers_of few) marks.new result }
+// Some numbers more, in their order: whether one was seen already.
+#[tactic(auto, using(crate::proofs::Marking::adds_none, crate::proofs::Marking::adds_more))]
+pub fn see_few(marks: &mut [u8; NUMBERS], numbers: &[u8]) -> bool
+    ensures { Adds marks.old numbers.now marks.new result }
 {
-    match few {
-        Few::Zero => 0,
-        Few::One(a) => see(marks, a),
-        Few::Two(a, b) => {
-            let first = see(marks, a);
-            let second = see(marks, b);
-            larger(first, second)
-        }
-        Few::Three(a, b, c) => {
-            let first = see(marks, a);
-            let second = see(marks, b);
-            let third = see(marks, c);
-            larger(first, larger(second, third))
-        }
+    let mut again = false;
+    for &n in numbers {
+        again |= see(marks, n);
     }
+    again
 }

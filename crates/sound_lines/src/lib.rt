@@ -1,7 +1,7 @@
 // The sets and the claims of a store: whether each byte is one that a load could leave there, yes or no, without the line of a fault.
 #![tactic(auto)]
 
-ghost use Rattle.std.specs.Prelude.{◌≡◌, ◌&&◌, ◌+◌, ◌-◌, ◌≤◌, length, take, drop};
+ghost use Rattle.std.specs.Prelude.{◌≡◌, ◌&&◌, ◌+◌, ◌≤◌, length, take, drop};
 ghost use Rattle.program.specs.Each.{collect};
 ghost use Rattle.program.specs.Program.{binders};
 ghost use Rattle.format.specs.Limits.{row_limit};
@@ -14,16 +14,8 @@ ghost use Rattle.seen.specs.Seen.{Marks};
 ghost use Rattle.sound_lines.specs.Sound.{within, sets_sound, claim_limit, claims_within, codes_sound, NextKey, passes};
 
 use allowed_lines::{allowed_members, chan_rows};
-use byte_order::larger;
 use byte_tests::all_below;
 use store::Store;
-
-// How far a byte is above its limit; 0 if it is not.
-fn excess(byte: u8, limit: u8) -> u8
-    ensures { result ≡ byte - limit }
-{
-    if byte < limit { 0 } else { byte - limit }
-}
 
 // Whether each byte of the set at a position is at most that of its member. Every byte is looked at, so that the loop takes many at a time.
 #[tactic(auto, using(crate::proofs::Bytes::within_goes, crate::proofs::Bytes::within_ends))]
@@ -32,29 +24,24 @@ fn set_within(store: &[u8], at: usize, members: &[u8]) -> bool
     requires member_limit_in_bounds { (at + member_limit ≤ length store.now) × (member_limit ≤ length members.now) }
     ensures { result ≡ within members.now 0 (take member_limit (drop at store.now)) }
 {
-    let mut most = 0;
-    let mut m = 0;
-    while m < Store::MEMBERS {
-        let x = excess(store[at + m], members[m]);
-        most = larger(most, x);
-        m += 1;
+    let mut most = 0u8;
+    for m in 0..Store::MEMBERS {
+        most = most.max(store[at + m].saturating_sub(members[m]));
     }
     most == 0
 }
 
-// The first key from n on that is marked, or the number of keys.
+// The first key from n on that is marked, or the number of keys: the sets before it end there, also where none is marked.
 fn next_key(keys: &[u8], n: usize) -> usize
     requires { (n ≤ row_limit) × (row_limit ≤ length keys.now) }
     ensures { NextKey keys.now n result }
 {
-    let mut k = n;
-    while k < Store::ROWS {
+    for k in n..Store::ROWS {
         if keys[k] != 0 {
             return k;
         }
-        k += 1;
     }
-    k
+    Store::ROWS
 }
 
 // Whether the sets that begin at base are sound: the set of a marked key has allowed members only, and any other is empty. The sets
@@ -66,6 +53,7 @@ fn sets_sound(store: &[u8], base: usize, keys: &[u8], members: &[u8]) -> bool
     ensures { result ≡ sets_sound keys.now members.now row_limit 0 (drop base store.now) }
 {
     let mut n = 0;
+    // A turn takes all keys up to the next marked one, so this counts no index.
     while n < Store::ROWS {
         let k = next_key(keys, n);
         let from = base + n * Store::MEMBERS;
@@ -97,13 +85,9 @@ fn claims_within(store: &[u8], chans: &[u8]) -> bool
     requires { (store_size ≤ length store.now) × (row_limit ≤ length chans.now) }
     ensures { result ≡ claims_within chans.now 0 (take row_limit (drop claims_start store.now)) }
 {
-    let mut most = 0;
-    let mut c = 0;
-    while c < Store::ROWS {
-        let limit = claim_limit(chans[c]);
-        let x = excess(store[Store::CLAIMS + c], limit);
-        most = larger(most, x);
-        c += 1;
+    let mut most = 0u8;
+    for c in 0..Store::ROWS {
+        most = most.max(store[Store::CLAIMS + c].saturating_sub(claim_limit(chans[c])));
     }
     most == 0
 }
@@ -116,11 +100,7 @@ pub fn lines_sound(store: &[u8], rows: u8, names: &[u8]) -> bool
 {
     let members = allowed_members(store, rows);
     let chans = chan_rows(store, rows);
-    if !sets_sound(store, Store::FLOWS, names, &members) {
-        return false;
-    }
-    if !sets_sound(store, Store::COMMS, &chans, &members) {
-        return false;
-    }
-    claims_within(store, &chans)
+    sets_sound(store, Store::FLOWS, names, &members)
+        && sets_sound(store, Store::COMMS, &chans, &members)
+        && claims_within(store, &chans)
 }

@@ -1,5 +1,5 @@
 -- The first part of what this crate tests.
-use Rattle.std.specs.Prelude.{Option, None as none, Some as some}
+use Rattle.std.specs.Prelude.{Option, Some as some}
 use Rattle.std.specs.Prelude.{length}
 use Rattle.program.specs.Test.{least}
 use Rattle.program.specs.Maybe.{◌>>=◌, ◌<|>◌}

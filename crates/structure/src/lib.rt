@@ -24,17 +24,14 @@ pub fn tree_fault(store: &[u8], rows: u8, names: &mut [u8; NUMBERS]) -> Result<(
     ensures fault { result_err result ≡ tree_fault (store_program rows store.now) }
     ensures names { result ≡ Ok tt → Marks (collect binders (store_program rows store.now)) names.new }
 {
-    let pointer = pointers::pointer_fault(store, rows);
-    if pointer < rows {
-        return Err(Reason::WrongPointer.at_row(pointer));
+    if let Some(r) = pointers::pointer_fault(store, rows) {
+        return Err(Reason::WrongPointer.at_row(r));
     }
-    let binder = binders::binder_fault(store, rows, names);
-    if binder < rows {
-        return Err(Reason::BoundTwice.at_row(binder));
+    if let Some(r) = binders::binder_fault(store, rows, names) {
+        return Err(Reason::BoundTwice.at_row(r));
     }
-    let unscoped = scope::scope_fault(store, rows);
-    if unscoped < rows {
-        return Err(Reason::OutOfScope.at_row(unscoped));
+    if let Some(r) = scope::scope_fault(store, rows) {
+        return Err(Reason::OutOfScope.at_row(r));
     }
     Ok(())
 }
@@ -51,8 +48,7 @@ pub fn structure_fault(store: &[u8], rows: u8) -> Result<(), Refusal>
     if sound_lines::lines_sound(store, rows, &names) {
         return Ok(());
     }
-    let line = allowed::not_allowed(store, rows, &names);
-    if line != 0 {
+    if let Some(line) = allowed::not_allowed(store, rows, &names) {
         return Err(Reason::NotAllowed.at(line));
     }
     Ok(())

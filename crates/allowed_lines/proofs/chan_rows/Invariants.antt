@@ -1,5 +1,4 @@
--- The loop's invariant: the flags tell which of the first r rows are chan rows. Each turn takes one row more, so the loop ends.
-use Prim.Native.Nat.{◌≤◌, ◌-◌}
+-- The loop's invariant: the flags tell which of the first r rows are chan rows.
 use mathlib.Core.Path.{◌≡◌}
 use lib.ListN.{length}
 use Rattle.program.specs.Program.{chan_row}
@@ -10,7 +9,4 @@ use Rattle.allowed_lines.proofs.chan_rows.Given as goal
 
 abbrev pub invariant-loop-r : goal.invariant-loop-r
 invariant-loop-r l =
-    (l.r ≤ l.rows) × (length l.chans ≡ row_limit) × Tells (chan_row (store_program l.r l.store)) l.chans
-
-abbrev pub decreases-loop-r : goal.decreases-loop-r
-decreases-loop-r l = l.rows - l.r
+    (length l.chans ≡ row_limit) × Tells (chan_row (store_program l.r l.store)) l.chans

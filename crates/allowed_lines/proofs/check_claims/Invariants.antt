@@ -1,6 +1,6 @@
--- The loop's invariant: checking the claims from row c on, from the next line, finds what checking all finds. Each turn takes one row more, so the loop ends.
+-- The loop's invariant: checking the claims from row c on, from the next line, finds what checking all finds.
 -- There are at most as many lines as rows, so the next line is a usize.
-use Prim.Native.Nat.{◌≤◌, ◌+◌, ◌-◌}
+use Prim.Native.Nat.{◌≤◌, ◌+◌}
 use mathlib.Core.Path.{◌≡◌}
 use lib.ListN.{take, drop}
 use Rattle.format.specs.Limits.{row_limit}
@@ -11,9 +11,5 @@ use Rattle.allowed_lines.proofs.check_claims.Given as goal
 
 abbrev pub invariant-loop-c : goal.invariant-loop-c
 invariant-loop-c l =
-    (l.c ≤ row_limit)
-    × (l.next ≤ l.line + l.c)
+    (l.next ≤ l.line + l.c)
     × (checked (claim_marked l.keys) l.next (claims_on l.store claims_start l.c) ≡ checked (claim_marked l.keys) l.line (decode_claims 0 (take row_limit (drop claims_start l.store))))
-
-abbrev pub decreases-loop-c : goal.decreases-loop-c
-decreases-loop-c l = row_limit - l.c

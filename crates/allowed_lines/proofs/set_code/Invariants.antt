@@ -1,15 +1,10 @@
 -- The loop's invariant: the code so far, joined with that of the members from m on, is the code of the set.
--- Each turn takes one member more, so the loop ends.
-use Prim.Native.Nat.{◌≤◌, max, ◌-◌}
+use Prim.Native.Nat.{max}
 use mathlib.Core.Path.{◌≡◌}
-use Rattle.calls.specs.Layout.{member_limit}
 use Rattle.allowed_lines.specs.Lines.{set_code, set_at}
 use Rattle.allowed_lines.proofs.Sets.{members_on}
 use Rattle.allowed_lines.proofs.set_code.Given as goal
 
 abbrev pub invariant-loop-m : goal.invariant-loop-m
 invariant-loop-m l =
-    (l.m ≤ member_limit) × (max l.code (set_code l.members (members_on l.store l.at l.m)) ≡ set_code l.members (set_at l.store l.at))
-
-abbrev pub decreases-loop-m : goal.decreases-loop-m
-decreases-loop-m l = member_limit - l.m
+    max l.code (set_code l.members (members_on l.store l.at l.m)) ≡ set_code l.members (set_at l.store l.at)

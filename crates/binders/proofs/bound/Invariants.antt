@@ -1,5 +1,4 @@
--- The loop's invariant: the marks are those of the names that the first r rows bind. Each turn takes one row more, so the loop ends.
-use Prim.Native.Nat.{◌≤◌, ◌-◌}
+-- The loop's invariant: the marks are those of the names that the first r rows bind.
 use Rattle.program.specs.Program.{binders}
 use Rattle.program.specs.Each.{collect}
 use Rattle.store.specs.Rows.{store_program}
@@ -7,8 +6,4 @@ use Rattle.seen.specs.Seen.{Marks}
 use Rattle.binders.proofs.bound.Given as goal
 
 abbrev pub invariant-loop-r : goal.invariant-loop-r
-invariant-loop-r l =
-    (l.r ≤ l.rows) × Marks (collect binders (store_program l.r l.store)) l.marks
-
-abbrev pub decreases-loop-r : goal.decreases-loop-r
-decreases-loop-r l = l.rows - l.r
+invariant-loop-r l = Marks (collect binders (store_program l.r l.store)) l.marks

@@ -1,6 +1,4 @@
 -- The loop's invariant: the marks are those of the rows that the first r rows point at, and no row before r has a fault.
--- Each turn takes one row more, so the loop ends.
-use Prim.Native.Nat.{◌≤◌, ◌-◌}
 use Rattle.program.specs.Program.{pointers}
 use Rattle.program.specs.Each.{collect}
 use Rattle.format.specs.Structure.{pointer_fault}
@@ -10,8 +8,4 @@ use Rattle.seen.proofs.Smallest.{Passed}
 use Rattle.pointers.proofs.in_order.Given as goal
 
 abbrev pub invariant-loop-r : goal.invariant-loop-r
-invariant-loop-r l =
-    (l.r ≤ l.rows) × Marks (collect pointers (store_program l.r l.store)) l.marks × Passed (pointer_fault (store_program l.rows l.store)) l.r
-
-abbrev pub decreases-loop-r : goal.decreases-loop-r
-decreases-loop-r l = l.rows - l.r
+invariant-loop-r l = Marks (collect pointers (store_program l.r l.store)) l.marks × Passed (pointer_fault (store_program l.rows l.store)) l.r

@@ -1,38 +1,9 @@
 use Prim.Native.Nat.{min}
 use mathlib.Core.Path.{refl, sym, ap, ap₂, ◌∙◌}
-use borrow.Author.Rules.{rules}
 use Rattle.format.specs.Scope.{with_name, row_fault, form_fault}
 use Rattle.scope.proofs.Fuel.{form_fuel, case_within, scope_before, scope_past, scope_within}
 use Rattle.scope.proofs.Undone.{put_back}
 use Rattle.scope.proofs.+scope_form_scope_row.Goals as goal
-
-pub scope_form-returns-in-Unit : goal.scope_form-returns-in-Unit
-unfolding form_fault
-scope_form-returns-in-Unit t c = search rules
-
-pub scope_form-returns-in-Chan : goal.scope_form-returns-in-Chan
-unfolding form_fault
-scope_form-returns-in-Chan t c = search rules
-
-pub scope_form-returns-in-Send : goal.scope_form-returns-in-Send
-unfolding form_fault
-scope_form-returns-in-Send t c = search rules
-
-pub scope_form-returns-in-Recv : goal.scope_form-returns-in-Recv
-unfolding form_fault
-scope_form-returns-in-Recv t c = search rules
-
-pub scope_form-returns-in-Pair : goal.scope_form-returns-in-Pair
-unfolding form_fault
-scope_form-returns-in-Pair t c = search rules
-
-pub scope_form-returns-in-Left : goal.scope_form-returns-in-Left
-unfolding form_fault
-scope_form-returns-in-Left t c = search rules
-
-pub scope_form-returns-in-Right : goal.scope_form-returns-in-Right
-unfolding form_fault
-scope_form-returns-in-Right t c = search rules
 
 pub scope_form-returns-in-Fun : goal.scope_form-returns-in-Fun
 unfolding form_fault
@@ -44,27 +15,11 @@ unfolding form_fault
 scope_form-returns-in-Spawn t c =
     record { fault = rw (c.in-Spawn.is, form_fuel _ _ c.requires) c.scope_row.ensures.fault; undone = c.scope_row.ensures.undone }
 
-pub scope_form-returns-in-Sync : goal.scope_form-returns-in-Sync
-unfolding form_fault
-scope_form-returns-in-Sync t c = search rules
-
-pub scope_form-returns-in-First : goal.scope_form-returns-in-First
-unfolding form_fault
-scope_form-returns-in-First t c = search rules
-
-pub scope_form-returns-in-Second : goal.scope_form-returns-in-Second
-unfolding form_fault
-scope_form-returns-in-Second t c = search rules
-
 pub scope_form-returns-in-Case : goal.scope_form-returns-in-Case
 scope_form-returns-in-Case t c =
     let kept = put_back _ _ _ c.put_name-old_left.ensures.was c.put_name-old_left.ensures.left c.scope_row-in_left.ensures.undone c.put_name-in-Case.ensures.left in
     let in_left = c.scope_row-in_left.ensures.fault ∙ ap (row_fault _ _ _ _) c.put_name-old_left.ensures.left in
-    let in_right = c.scope_row-in_right.ensures.fault ∙ ap (row_fault _ _ _ _) (c.put_name-old_right.ensures.left ∙ ap (with_name _) kept) in record { fault = rw (c.in-Case.is, form_fuel _ _ c.requires, case_within) (c.least-in-Case-2.ensures ∙ ap₂ min c.use_of-here.ensures (c.least-in-Case.ensures ∙ ap₂ min in_left in_right)); undone = put_back _ _ _ c.put_name-old_right.ensures.was c.put_name-old_right.ensures.left c.scope_row-in_right.ensures.undone c.put_name-in-Case-2.ensures.left ∙ kept }
-
-pub scope_form-returns-in-Apply : goal.scope_form-returns-in-Apply
-unfolding form_fault
-scope_form-returns-in-Apply t c = search rules
+    let in_right = c.scope_row-in_right.ensures.fault ∙ ap (row_fault _ _ _ _) (c.put_name-old_right.ensures.left ∙ ap (with_name _) kept) in record { fault = rw (c.in-Case.is, form_fuel _ _ c.requires, case_within) (c.min-in-Case-2.ensures ∙ ap₂ min c.use_of-here.ensures (c.min-in-Case.ensures ∙ ap₂ min in_left in_right)); undone = put_back _ _ _ c.put_name-old_right.ensures.was c.put_name-old_right.ensures.left c.scope_row-in_right.ensures.undone c.put_name-in-Case-2.ensures.left ∙ kept }
 
 pub scope_row-returns-then-r-from : goal.scope_row-returns-then-r-from
 scope_row-returns-then-r-from t c = record { fault = sym (scope_before _ _ _ _ _ c.if-r-from.true); undone = refl }
@@ -80,4 +35,4 @@ pub scope_row-returns-in-Bind : goal.scope_row-returns-in-Bind
 scope_row-returns-in-Bind t c =
     let kept = put_back _ _ _ c.put_name-old.ensures.was c.put_name-old.ensures.left c.scope_row-below.ensures.undone c.put_name.ensures.left in
     let here = c.scope_form-here.ensures.fault ∙ ap (form_fault _ _ _ _) kept in
-    let below = c.scope_row-below.ensures.fault ∙ ap (row_fault _ _ _ _) c.put_name-old.ensures.left in record { fault = rw (scope_within _ _ _ _ _ c.if-r-from.false c.if-rows-r.false, sym c.row_at.ensures ∙ c.in-Bind.is) (c.least.ensures ∙ ap₂ min here below); undone = c.scope_form-here.ensures.undone ∙ kept }
+    let below = c.scope_row-below.ensures.fault ∙ ap (row_fault _ _ _ _) c.put_name-old.ensures.left in record { fault = rw (scope_within _ _ _ _ _ c.if-r-from.false c.if-rows-r.false, sym c.row_at.ensures ∙ c.in-Bind.is) (c.min.ensures ∙ ap₂ min here below); undone = c.scope_form-here.ensures.undone ∙ kept }

@@ -1,6 +1,4 @@
 -- The loop's invariant: all bytes of the set are at most their limits exactly if none so far is above and those from member m on are not.
--- Each turn takes one member more, so the loop ends.
-use Prim.Native.Nat.{◌≤◌, ◌-◌}
 use mathlib.Core.Bool.{◌&&◌}
 use mathlib.Core.Path.{◌≡◌}
 use lib.ListN.{take, drop}
@@ -12,7 +10,4 @@ use Rattle.sound_lines.proofs.set_within.Given as goal
 
 abbrev pub invariant-loop-m : goal.invariant-loop-m
 invariant-loop-m l =
-    (l.m ≤ member_limit) × (eqb l.most 0 && within_on l.store l.members l.at l.m ≡ within l.members 0 (take member_limit (drop l.at l.store)))
-
-abbrev pub decreases-loop-m : goal.decreases-loop-m
-decreases-loop-m l = member_limit - l.m
+    eqb l.most 0 && within_on l.store l.members l.at l.m ≡ within l.members 0 (take member_limit (drop l.at l.store))

@@ -1,2 +1,0 @@
--- What the function of this crate answers.
-pub mod Answer
