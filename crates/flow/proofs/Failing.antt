@@ -1,31 +1,21 @@
--- The smallest row whose rule fails, as a loop over the rows finds it.
-use Prim.Native.Nat.{ℕ, ◌≤◌, ◌<◌}
-use native.Mathlib.Omega.{arith}
+-- The smallest number that passes, as a search over a range finds it.
+use Rattle.std.proofs.Common.{ℕ, ◌≤◌, ◌<◌, ◌≡◌, Bool, true, false, Option, None, Some, sym, ap, ◌∙◌, arith}
 use native.Mathlib.Decide.{dec_lt}
-use mathlib.Core.Bool.{Bool, true, false, not, false≢true}
-use Rattle.std.specs.Prelude.{Option, None as none, Some as some}
-use mathlib.Core.Path.{◌≡◌, sym, ◌∙◌}
+use mathlib.Core.Bool.{false≢true}
+use Rattle.std.specs.Option.{MatchOption}
 use Rattle.program.specs.Test.{least}
 use Rattle.program.proofs.Test.{Least, none_passes, smallest, least_is, none_least}
-use Rattle.format.specs.Limits.{row_limit}
-use Rattle.store.specs.Rows.{row_or}
 
-module _ (n : ℕ) (f : ℕ → Bool) (r : ℕ) (before : (j : ℕ) → j < r → f j ≡ true) where
-  pub first_fails : r < n → f r ≡ false → r ≡ row_or (least n λ j. not (f j))
-  unfolding row_or
-  first_fails l e = go (least n λ j. not (f j)) (least_is n λ j. not (f j))
-    where
-      here : not (f r) ≡ true
-      here = rw e
-
-      go : (o : Option ℕ) → Least n (λ j. not (f j)) o → r ≡ row_or o
-      go none (none_passes h) = absurd (false≢true (sym (h r l) ∙ here))
-      go (some i) (smallest m t h) =
-          elim (dec_lt r i) [
-            | yes k ↦ absurd (false≢true (sym (h r k) ∙ here))
-            | no g ↦ elim (dec_lt i r) [ yes k ↦ absurd (false≢true (rw (before i k) at t)) | no d ↦ omega arith ]
-          ]
-
-  pub none_fails : r ≤ n → n ≤ r → row_limit ≡ row_or (least n λ j. not (f j))
-  unfolding row_or
-  none_fails l m = rw (none_least n (λ j. not (f j)) (λ j h. rw (before j (omega arith))))
+pub least_found : (n : ℕ) (f : ℕ → Bool) (r : Option ℕ)
+    → MatchOption r ((k : ℕ) → 0 ≤ k → k < n → f k ≡ false) (λ i. (0 ≤ i) × (i < n) × (f i ≡ true) × ((k : ℕ) → 0 ≤ k → k < i → f k ≡ false))
+    → r ≡ least n f
+least_found n f None h = sym (none_least n f λ i l. h i (omega arith) l)
+least_found n f (Some i) (low, l, t, before) = go (least n f) (least_is n f)
+  where
+    go : (o : Option ℕ) → Least n f o → Some i ≡ o
+    go None (none_passes h) = absurd (false≢true (sym (h i l) ∙ t))
+    go (Some j) (smallest m u h) =
+        elim (dec_lt i j) [
+          | yes k ↦ absurd (false≢true (sym (h i k) ∙ t))
+          | no g ↦ elim (dec_lt j i) [ yes k ↦ absurd (false≢true (sym (before j (omega arith) k) ∙ u)) | no d ↦ (let e : i ≡ j = omega arith in ap (λ k. Some k) e) ]
+        ]

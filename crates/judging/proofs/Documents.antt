@@ -12,7 +12,6 @@ use Rattle.program.specs.declared.Word.{Word}
 use Rattle.program.specs.Test.{least}
 use Rattle.program.specs.Program.{Program, chan_row}
 use Rattle.program.specs.Flow.{keeps_at}
-use Rattle.program.proofs.Test.{Least, smallest, least_is}
 use Rattle.format.specs.declared.Refusal.{Refusal}
 use Rattle.format.specs.declared.Reason.TheVariants.{FlowRuleFails, NotAChannel}
 use Rattle.format.specs.Refusals.{refusal, Result, refused}
@@ -27,7 +26,7 @@ use Rattle.calls.specs.Judging.{word_holds, reaches, failing_row, failing_claim,
 use Rattle.calls.specs.Calls.{judge_answered, no_verdict, verdict_given, verdict_of}
 use Rattle.calls.proofs.Canonical.Rows.{count_rows-le}
 use Rattle.bounds.proofs.Bounds.{sets_few, claims_few}
-use Rattle.store.specs.Rows.{store_program, row_or}
+use Rattle.store.specs.Rows.{store_program}
 use Rattle.store.proofs.Laws.{program_length}
 use Rattle.store.specs.Document.{store_document}
 use Rattle.store.proofs.Document.{claims_are, claim_line_lem, rows_decode, flow_is, comm_is, document_is}
@@ -70,30 +69,14 @@ module _ (n : ℕ) (s : Bytes) (rows : n ≡ count_rows row_limit s) where
   unfolding failing_row
   failing_is = rw (flow_is s, comm_is s, rows_are, program_length n s)
 
-  module _ {m : ℕ} (e : m ≡ row_or (least n (λ r. not (keeps r)))) where
-    row_fails : m < n → failing_row (decode s) ≡ some m
-    unfolding row_or
-    row_fails l = failing_is ∙ go (least n (λ r. not (keeps r))) e
-      where
-        go : (o : Option ℕ) → m ≡ row_or o → o ≡ some m
-        go none q = absurd (omega (arith, q, few_rows))
-        go (some r) q = ap some (sym q)
-
-    rows_keep : n ≤ m → failing_row (decode s) ≡ none
-    unfolding row_or
-    rows_keep l = failing_is ∙ go (least n (λ r. not (keeps r))) (least_is n (λ r. not (keeps r))) e
-      where
-        go : (o : Option ℕ) → Least n (λ r. not (keeps r)) o → m ≡ row_or o → o ≡ none
-        go none h q = refl
-        go (some r) (smallest b t h) q = absurd (omega (arith, q))
-
-    pub flow_refused : m < n → {A : Type 0} (rest : Result A) → after10 (decode s) rest ≡ refused (refusal FlowRuleFails (row_line m))
+  module _ {o : Option ℕ} (e : o ≡ least n (λ r. not (keeps r))) where
+    pub flow_refused : {m : ℕ} → o ≡ some m → {A : Type 0} (rest : Result A) → after10 (decode s) rest ≡ refused (refusal FlowRuleFails (row_line m))
     unfolding after10
-    flow_refused l rest = rw (after10, row_fails l)
+    flow_refused q rest = rw (after10, failing_is, ← e, q)
 
-    pub flow_passed : n ≤ m → {A : Type 0} (rest : Result A) → after10 (decode s) rest ≡ rest
+    pub flow_passed : o ≡ none → {A : Type 0} (rest : Result A) → after10 (decode s) rest ≡ rest
     unfolding after10
-    flow_passed l rest = rw (after10, rows_keep l)
+    flow_passed q rest = rw (after10, failing_is, ← e, q)
 
   -- ---- the words, and the claims
 
@@ -134,12 +117,12 @@ module _ (n : ℕ) (s : Bytes) (rows : n ≡ count_rows row_limit s) where
         let same : claim_in (store_program n s) (store_flow s) ≡ (λ k. word_holds (decode s) (reaches (decode s)) k.channel k.word) = fun_ext claim_is in
         judged_is _ _ _ ∙ rw (← claims_same_bytes, same) (answer_is (first_failing (λ k. word_holds (decode s) (reaches (decode s)) k.channel k.word) (claim_line (decode s)) (decode s).claims))
 
-    module _ {m : ℕ} (e : m ≡ row_or (least n (λ r. not (keeps r)))) where
-      pub judge_refused : m < n → Err (refusal FlowRuleFails (row_line m)) ≡ judge_answered (judge_document (decode s))
+    module _ {o : Option ℕ} (e : o ≡ least n (λ r. not (keeps r))) where
+      pub judge_refused : {m : ℕ} → o ≡ some m → Err (refusal FlowRuleFails (row_line m)) ≡ judge_answered (judge_document (decode s))
       unfolding judge_document judge_answered
       judge_refused l = rw (flow_refused e l)
 
-      pub judge_goes : n ≤ m → {a : JudgeAnswer} {held : Held} → held ≡ claims_held (claim_in (store_program n s) (store_flow s)) 0 (decode_claims 0 (take row_limit (drop claims_start s)))
+      pub judge_goes : o ≡ none → {a : JudgeAnswer} {held : Held} → held ≡ claims_held (claim_in (store_program n s) (store_flow s)) 0 (decode_claims 0 (take row_limit (drop claims_start s)))
           → a ≡ judged_at (claim_line (decode s)) held → a ≡ judge_answered (judge_document (decode s))
       unfolding judge_document
       judge_goes l q h = h ∙ rw (q, flow_passed e l) claims_same
@@ -154,12 +137,12 @@ module _ (n : ℕ) (s : Bytes) (rows : n ≡ count_rows row_limit s) where
   unfolding verdict_of verdict_given
   no_channel c q = rw (chan_is c q, verdict_given) refl
 
-  module _ (c : ℕ) (q : chan_row (store_program n s) c ≡ true) {m : ℕ} (e : m ≡ row_or (least n (λ r. not (keeps r)))) where
-    pub verdict_refused : m < n → no_verdict (refusal FlowRuleFails (row_line m)) ≡ verdict_given (verdict_of c (decode s))
+  module _ (c : ℕ) (q : chan_row (store_program n s) c ≡ true) {o : Option ℕ} (e : o ≡ least n (λ r. not (keeps r))) where
+    pub verdict_refused : {m : ℕ} → o ≡ some m → no_verdict (refusal FlowRuleFails (row_line m)) ≡ verdict_given (verdict_of c (decode s))
     unfolding verdict_of verdict_given verdict_document
     verdict_refused l = rw (chan_is c q, flow_refused e l, verdict_given) refl
 
-    pub verdict_goes : n ≤ m → {words : List Bool} → words ≡ map (word_in (store_program n s) (store_flow s) c) verdict_words
+    pub verdict_goes : o ≡ none → {words : List Bool} → words ≡ map (word_in (store_program n s) (store_flow s) c) verdict_words
         → record { status = Ok tt; words = words } ≡ verdict_given (verdict_of c (decode s))
     unfolding verdict_of verdict_given verdict_document
     verdict_goes l {words} w =

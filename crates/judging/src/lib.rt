@@ -78,8 +78,7 @@ pub fn judge_rows(store: &[u8], rows: u8) -> JudgeAnswer
     requires rows_value { rows ≡ count_rows row_limit store.now }
     ensures { result ≡ judge_answered (judge_document (decode store.now)) }
 {
-    let first = flow::failing_row(store, rows);
-    if first < rows {
+    if let Some(first) = flow::failing_row(store, rows) {
         return Err(flow_refusal(first));
     }
     let held = claims_held(store, rows);
@@ -95,8 +94,7 @@ pub fn judge_store(store: &[u8], rows: u8, grid: &mut [u8]) -> JudgeAnswer
     requires shows { Shows (λ r s. false) grid.old }
     ensures { Judged rows store.now result grid.new }
 {
-    let row = flow::failing_row(store, rows);
-    if row < rows {
+    if let Some(row) = flow::failing_row(store, rows) {
         return Err(flow_refusal(row));
     }
     reach::fill_reach(store, rows, grid);
@@ -118,9 +116,8 @@ pub fn verdict_rows(store: &[u8], rows: u8, channel: usize) -> VerdictAnswer
     if !forms::is_chan(store, rows, c) {
         return not_a_channel();
     }
-    let failing = flow::failing_row(store, rows);
-    if failing < rows {
-        return no_verdict(flow_refusal(failing));
+    if let Some(row) = flow::failing_row(store, rows) {
+        return no_verdict(flow_refusal(row));
     }
     VerdictAnswer {
         status: Ok(()),

@@ -10,7 +10,7 @@ use borrow.Rule.Slice.PartMut.{put_mid}
 use Rattle.std.proofs.lemmas.List.{get_or-append_right, get_or-replicate}
 use Rattle.std.proofs.lemmas.List.Edits.{paste_all}
 use Rattle.std.proofs.lemmas.Slice.{put_mid-paste}
-use Rattle.std.specs.Prelude.{Option, None as none, Some as some}
+use Rattle.std.specs.Prelude.{Option, None as none, Some as some, is_some}
 use Rattle.program.specs.Test.{least}
 use Rattle.program.specs.Flow.{Table, keeps_at, keeps_all}
 use Rattle.program.proofs.Test.{all_intro, Least as Smallest, least_is, none_passes, smallest, same_tests}
@@ -21,7 +21,7 @@ use Rattle.format.specs.Limits.{row_limit}
 use Rattle.format.specs.Text.{Bytes, byte_at}
 use Rattle.format.specs.Document.{member}
 use Rattle.calls.specs.Layout.{rows_size, sets_size, claims_start, store_size}
-use Rattle.store.specs.Rows.{store_program, row_or}
+use Rattle.store.specs.Rows.{store_program}
 use Rattle.store.proofs.Laws.{program_length}
 use Rattle.tables.specs.Tables.{store_flow, store_comm}
 use Rattle.set_adds.specs.Adding.{position_of, Flags, Inside, Adds}
@@ -59,10 +59,10 @@ pub settled : (n : ℕ) {s : Bytes} → So (keeps_all (store_program n s) (store
 settled n {s} keeps = record { resets = resets_none s; flags = λ h. h; inside = λ flow comm t h. h; keeps = keeps }
 
 -- no row fails
-pub no_row_fails : (n m : ℕ) (s : Bytes) → n ≤ row_limit → m ≡ row_or (least n (λ r. not (keeps_at (store_program n s) (store_flow s) (store_comm s) r))) → row_limit ≤ m
+pub no_row_fails : (n : ℕ) (o : Option ℕ) (s : Bytes) → o ≡ least n (λ r. not (keeps_at (store_program n s) (store_flow s) (store_comm s) r)) → is_some o ≡ false
     → So (keeps_all (store_program n s) (store_flow s) (store_comm s))
-unfolding row_or keeps_all
-no_row_fails n m s few e l = rw (program_length n s) (all_intro n keeps (go (least n (λ r. not (keeps r))) (least_is n (λ r. not (keeps r))) e))
+unfolding keeps_all
+no_row_fails n o s e l = rw (program_length n s) (all_intro n keeps (go (least n (λ r. not (keeps r))) (least_is n (λ r. not (keeps r))) e))
   where
     keeps : ℕ → Bool
     keeps r = keeps_at (store_program n s) (store_flow s) (store_comm s) r
@@ -71,9 +71,9 @@ no_row_fails n m s few e l = rw (program_length n s) (all_intro n keeps (go (lea
     so true q = refl
     so false q = absurd (false≢true (sym q))
 
-    go : (o : Option ℕ) → Smallest n (λ r. not (keeps r)) o → m ≡ row_or o → (i : ℕ) → i < n → So (keeps i)
+    go : (x : Option ℕ) → Smallest n (λ r. not (keeps r)) x → o ≡ x → (i : ℕ) → i < n → So (keeps i)
     go none (none_passes h) q i k = so (keeps i) (h i k)
-    go (some r) (smallest j t h) q i k = absurd (omega arith)
+    go (some r) (smallest j t h) q i k = absurd (false≢true (sym l ∙ ap is_some q))
 
 -- growth, and then rounds
 pub settles_grown : (n : ℕ) {s₀ s₁ s₂ : Bytes} {b : Bool} → n ≤ row_limit → Grows n s₀ s₁ b → Settles n s₁ s₂ → Settles n s₀ s₂

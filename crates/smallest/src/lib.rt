@@ -13,7 +13,7 @@ ghost use Rattle.smallest.specs.Smallest.{Settles, Cleared, Least};
 use flow::failing_row;
 use row_adds::row_adds;
 use spreading::spread;
-use store::{NO_ROW, Store};
+use store::Store;
 
 // Adds what the rules ask, one row after the other.
 fn round(store: &mut [u8], rows: u8, names: &[u8]) -> bool
@@ -56,7 +56,7 @@ fn settle_rest(store: &mut [u8], rows: u8, names: &[u8])
     requires names { Names (store_program rows store.old) names.now }
     ensures { Settles rows store.old store.new }
 {
-    if failing_row(store, rows) < NO_ROW {
+    if failing_row(store, rows).is_some() {
         settle(store, rows, names);
     }
 }
