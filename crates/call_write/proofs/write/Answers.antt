@@ -17,7 +17,7 @@ pub document_length-length-requires : goal.document_length-length-requires
 document_length-length-requires c = record { store_size_in_bounds = opens_long _ _ c.in_ok-rows.ensures; store_keys = store_keys _ _ c.in_ok-rows.ensures _ _ c.bound-names.ensures c.chan_rows-chans.ensures (omega arith) }
 
 pub returns-then-out-length : goal.returns-then-out-length
-returns-then-out-length c = no_room _ _ _ _ c.in_ok-rows.ensures c.document_length-length.ensures c.if-out-length.true
+returns-then-out-length c = rw c.at.ensures (no_room _ _ _ _ c.in_ok-rows.ensures c.document_length-length.ensures c.if-out-length.true)
 
 pub put_document-requires : goal.put_document-requires
 put_document-requires c = record { store_size_in_bounds = opens_long _ _ c.in_ok-rows.ensures; store_keys = store_keys _ _ c.in_ok-rows.ensures _ _ c.bound-names.ensures c.chan_rows-chans.ensures (omega arith); room = text_room c.document_length-length.ensures c.if-out-length.false }
