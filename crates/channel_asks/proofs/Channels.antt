@@ -68,9 +68,6 @@ pub record Holding (list s : Bytes) (i : ℕ) (all : Bytes) : Type 0 where
   pub size : length all ≡ member_limit
   pub each : (j : ℕ) → j < i → (a : Abstract) → member a < member_limit → So (set_of all a) → So (store_comm s (byte_at list j) a)
 
-pub holding_none : (list s : Bytes) → Holding list s 0 (replicate member_limit 1)
-holding_none list s = record { size = length-replicate {A = ℕ} member_limit 1; each = λ j l. absurd (omega arith) }
-
 -- a member of the smaller of two sets is in both
 met : (all other all' : Bytes) → member_limit ≤ length all → member_limit ≤ length other → Bytewise min member_limit other all all'
     → (a : Abstract) → member a < member_limit → So (set_of all' a) → So (set_of all a) × So (set_of other a)

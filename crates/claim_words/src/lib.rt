@@ -7,7 +7,7 @@ ghost use Rattle.calls.specs.Layout.{word_of};
 
 use program::{Ends, Facts, Word};
 
-// The word of a claim's code in the store; every code but these five is that of many.
+// The word of a claim's code in the store, a byte there; every code but these five is that of many.
 #[tactic(auto, unfolding(calls::specs::Layout::word_of))]
 pub fn word_of(code: u8) -> Word
     ensures { result ≡ word_of code }

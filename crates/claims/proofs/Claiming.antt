@@ -27,9 +27,6 @@ module _ (ok : Claim → Bool) (s : Bytes) (base held : ℕ) where
   abbrev held_from : ℕ → ℕ → Held
   held_from held c = claims_held ok held (claims_on s base c)
 
-  pub held_start : claims_held ok held (claims_on s base 0) ≡ claims_held ok held (decode_claims 0 (take row_limit (drop base s)))
-  held_start = rw add-zero
-
   pub held_end : (c : ℕ) → row_limit ≤ c → held_from held c ≡ Ok held
   unfolding decode_claims claims_held
   held_end c l = let q : row_limit - c ≡ 0 = omega arith in rw q

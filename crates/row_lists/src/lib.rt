@@ -65,7 +65,7 @@ pub enum Kind {
     Sync = 11,
 }
 
-// The rows of a kind by its code, rising.
+// The rows of a kind, rising, by its code: any code, since a `Kind` would ask more of a caller.
 #[tactic(auto, using(crate::proofs::Listing::has_none, crate::proofs::Listing::lists_done, crate::proofs::OfKind::below_none))]
 pub fn rows_of_kind(store: &[u8], rows: u8, kind: u8) -> RowList
     requires { rows ≤ row_limit }

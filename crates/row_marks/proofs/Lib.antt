@@ -1,2 +1,2 @@
--- What a loop over sets of rows finds, and arrays that a loop fills.
+-- What a loop over sets of rows finds.
 pub mod Marking

@@ -1,4 +1,4 @@
--- Sets of rows as bytes: what a loop over them finds, and arrays that a loop fills.
+-- Sets of rows as bytes: what a loop over them finds.
 use Prim.Native.Nat.{ℕ, ◌+◌, ◌≤◌, ◌<◌, max, min}
 use native.Mathlib.Omega.{arith}
 use native.Mathlib.Numerals.{add-one}
@@ -49,23 +49,9 @@ module _ (i found : ℕ) {next : ℕ} where
       let d : ltb 0 y ≡ ltb 0 (byte_at a i) && ltb 0 x = rw q (over_min (byte_at a i) x) in
       rw (add-one i, r, over_max found y, d, e, h)
 
--- ---- arrays that a loop fills
+-- ---- the set that bytes mark
 
-pub marked_none : (f : ℕ → Bool) → Marked 0 f (replicate row_limit 0)
-marked_none f = record { size = omega (arith, length-replicate {A = ℕ} row_limit 0); rows = λ r l. absurd (omega arith) }
-
-pub marked_more : (n v : ℕ) {s : Bytes} {f : ℕ → Bool} → n < row_limit → Marked n f s → ltb 0 v ≡ f n → Marked (n + 1) f (set s n v)
-unfolding on
-marked_more n v {s} {f} l m e =
-    record {
-      size = simp length-set m.size;
-      rows = λ r h. elim (dec_eq r n) [
-        | yes q ↦ rw (q, get_or-set_same s n v 0 (omega (arith, m.size))) e
-        | no d ↦ rw (get_or-set_other s n r v 0 d) (m.rows r (omega arith))
-      ];
-    }
-
--- the set that the bytes mark, of the first n rows and past them
+-- of the first n rows and past them
 pub marked_in : (n : ℕ) (marks : Bytes) (r : ℕ) → r < n → on marks r ≡ marked n marks r
 unfolding marked
 marked_in n marks r l = rw (lt-ltb r n l)
@@ -84,9 +70,6 @@ marked_is n {f} {marks} m past =
     ]
 
 -- ---- no row is marked
-
-pub unmarked_none : (marks : Bytes) (r : ℕ) → r < 0 → byte_at marks r ≡ 0
-unmarked_none marks r l = absurd (omega arith)
 
 pub unmarked_more : (marks : Bytes) (i found : ℕ) {next : ℕ} → (found ≡ 0 → (r : ℕ) → r < i → byte_at marks r ≡ 0) → next ≡ max found (byte_at marks i)
     → next ≡ 0 → (r : ℕ) → r < i + 1 → byte_at marks r ≡ 0

@@ -80,24 +80,6 @@ pub record JoinsTo (grid : Bytes) (at : ℕ) (marks : Bytes) (j : ℕ) (left : B
   pub done : (c : ℕ) → c < j → get_or left c 0 ≡ max (get_or marks c 0) (get_or grid (at + c) 0)
   pub past : (c : ℕ) → j ≤ c → get_or left c 0 ≡ get_or marks c 0
 
-pub joins_none : (grid : Bytes) (at : ℕ) (marks : Bytes) → JoinsTo grid at marks 0 marks
-joins_none grid at marks = record { same_length = refl; done = λ c l. absurd (omega arith); past = λ c l. refl }
-
-pub joins_more : {grid marks left : Bytes} {at j v : ℕ} → JoinsTo grid at marks j left → j < length left → v ≡ max (get_or left j 0) (get_or grid (at + j) 0)
-    → JoinsTo grid at marks (j + 1) (set left j v)
-joins_more {grid} {marks} {left} {at} {j} {v} h l e =
-    record {
-      same_length = simp length-set h.same_length;
-      done = λ c lc. elim (dec_eq c j) [
-        | yes q ↦ rw q (get_or-set_same left j v 0 l ∙ e ∙ ap (λ (x : ℕ). max x (get_or grid (at + j) 0)) (h.past j (omega arith)))
-        | no d ↦ get_or-set_other left j c v 0 d ∙ h.done c (omega arith)
-      ];
-      past = λ c lc. get_or-set_other left j c v 0 (omega arith) ∙ h.past c (omega arith);
-    }
-
-pub joins_all : (n : ℕ) {grid marks left : Bytes} {at j : ℕ} → JoinsTo grid at marks j left → n ≤ j → JoinsMarks n grid at marks left
-joins_all n h l = record { same_length = h.same_length; joined = λ j m. h.done j (omega arith) }
-
 -- the rows ahead of the first i rows' places
 abbrev pub ahead_below : Bytes → Bytes → ℕ → ℕ → Bool
 ahead_below grid places i r = any i λ k. on places k && on grid (k * row_limit + r)
