@@ -2,7 +2,7 @@
 use Prim.Native.Nat.{ℕ, ◌+◌, ◌≤◌, ◌<◌, min}
 use native.Mathlib.Omega.{arith}
 use native.Mathlib.Decide.{ℕ_discrete as dec_eq, dec_lt}
-use mathlib.Core.Bool.{Bool, true, false, ◌&&◌, So, false≢true}
+use mathlib.Core.Bool.{Bool, true, false, So}
 use mathlib.Core.Path.{◌≡◌, refl, sym, ap, ◌∙◌}
 use lib.ListN.{length, set, replicate, length-set, length-replicate, get_or-replicate}
 use lib.Seq.{get_or-set_same, get_or-set_other}
@@ -10,8 +10,8 @@ use lib.Dec.{ltb}
 use borrow.Author.Tests.{lt-ltb, ltb-true}
 use Rattle.program.specs.Test.{◌⇒◌, any}
 use Rattle.program.specs.Maybe.{when}
-use Rattle.program.specs.Program.{Program, row_at, chan_at}
-use Rattle.program.specs.Flow.{Abstract, row, Set, Table, lies, for_each, for_each_chan}
+use Rattle.program.specs.Program.{Program, chan_at}
+use Rattle.program.specs.Flow.{Abstract, row, Set, lies, for_each, for_each_chan}
 use Rattle.program.proofs.Test.{all_intro, implies_intro}
 use Rattle.format.specs.Limits.{row_limit}
 use Rattle.format.specs.Text.{Bytes, byte_at}
@@ -20,7 +20,6 @@ use Rattle.calls.specs.Layout.{member_limit}
 use Rattle.store.specs.Rows.{store_program}
 use Rattle.store.proofs.Laws.{program_length, zeros_at}
 use Rattle.tables.specs.Tables.{store_flow, store_comm}
-use Rattle.forms.specs.Forms.{form_in}
 use Rattle.forms.proofs.Forms.{chan_at_lem}
 use Rattle.row_lists.specs.Lists.{Lists, of_kind, chan_kind}
 use Rattle.row_lists.proofs.Listing.{among, among_here, among_other, one_listed}

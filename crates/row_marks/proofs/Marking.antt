@@ -5,8 +5,6 @@ use native.Mathlib.Numerals.{add-one}
 use native.Mathlib.Decide.{dec_lt, ℕ_discrete as dec_eq}
 use mathlib.Core.Bool.{Bool, false, ◌&&◌, ◌||◌}
 use mathlib.Core.Path.{◌≡◌, sym, ◌∙◌, fun_ext}
-use lib.ListN.{set, replicate, length-set, length-replicate}
-use lib.Seq.{get_or-set_same, get_or-set_other}
 use lib.Dec.{ltb}
 use borrow.Author.Tests.{lt-ltb, le-ltb}
 use Rattle.program.specs.Test.{any}

@@ -1,5 +1,5 @@
 use native.Mathlib.Omega.{arith}
-use mathlib.Core.Path.{◌≡◌, refl, sym, ◌∙◌}
+use mathlib.Core.Path.{refl, sym, ◌∙◌}
 use borrow.Author.Tests.{eqb-true}
 use Rattle.tables.proofs.Tables.{bool_byte_lem}
 use Rattle.channel_asks.proofs.Channels.{fails_none, fails_more, fails_all, send_other}

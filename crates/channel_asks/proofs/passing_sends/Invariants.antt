@@ -1,7 +1,7 @@
 -- All is marked but those of the send rows so far that fail.
 use Rattle.store.specs.Rows.{store_program}
 use Rattle.tables.specs.Tables.{store_flow, store_comm}
-use Rattle.channel_asks.specs.Channels.{send_test, AllHold}
+use Rattle.channel_asks.specs.Channels.{send_test}
 use Rattle.channel_asks.proofs.Channels.{Fails}
 use Rattle.channel_asks.proofs.passing_sends.Given as goal
 
