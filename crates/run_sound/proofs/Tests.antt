@@ -1,13 +1,16 @@
 -- What the tests of a row and of a name answer. All cells, frames and threads by the last one and those before it.
 -- A run whose counts are within the limits.
-use Prim.Native.Nat.{ℕ, zero, suc, ◌-◌, ◌≤◌, ◌<◌}
+use Prim.Native.Nat.{ℕ, zero, suc, ◌+◌, ◌-◌, ◌≤◌, ◌<◌, min}
 use native.Mathlib.Omega.{arith}
-use mathlib.Core.Bool.{Bool, true, false, not, ◌&&◌, So, false≢true, and-true, and-false, and_assoc}
-use mathlib.Core.List.{List, [], ◌∷◌}
+use mathlib.Core.Bool.{Bool, true, false, ◌&&◌, So, false≢true}
+use mathlib.Core.List.{List}
 use mathlib.Core.Path.{◌≡◌, refl, sym, ◌∙◌, ap}
-use lib.ListN.{length, take, get_or}
+use lib.ListN.{length, take, drop, get_or, drop_of_length-le}
 use lib.Dec.{leb}
-use borrow.Author.Tests.{lt-ltb, le-ltb, leb-true, not-true, not-false}
+use borrow.Author.Tests.{lt-ltb, le-ltb, leb-true}
+use Rattle.std.proofs.Math.Nat.{min_comm}
+use Rattle.std.proofs.Math.Seq.{drop-cons}
+use Rattle.std.proofs.lemmas.List.{take_min}
 use Rattle.program.specs.Each.{every, collect}
 use Rattle.program.specs.Program.{Program, binders}
 use Rattle.format.specs.Text.{Bytes, byte_at}
@@ -57,13 +60,6 @@ counted b n e =
 
 -- ---- all cells, frames and threads
 
--- a test that is known by its answer
-pub failed : {test answer : Bool} → answer ≡ test → not answer ≡ true → test ≡ false
-failed e z = sym e ∙ not-true _ z
-
-pub passed : {test answer : Bool} → answer ≡ test → not answer ≡ false → test ≡ true
-passed e z = sym e ∙ not-false _ z
-
 module _ (b : Bytes) where
   cells_last : (p : Program) (k : ℕ) (c : Cell) → 0 < k → c ≡ cell_at b k → sound_cells p (cells_in b k) ≡ (sound_cell p (k - 1) c && sound_cells p (cells_in b (k - 1)))
   unfolding sound_cells sound_cell cells_in
@@ -72,11 +68,11 @@ module _ (b : Bytes) where
 
   -- by the answer of the last one's test
   module _ (p : Program) (k : ℕ) (c : Cell) (l : 0 < k) (e : c ≡ cell_at b k) {answer : Bool} (q : answer ≡ sound_cell p (k - 1) c) where
-    pub cell_failed : not answer ≡ true → sound_cells p (cells_in b k) ≡ false
-    cell_failed z = cells_last p k c l e ∙ rw (failed q z)
+    pub cell_failed : answer ≡ false → sound_cells p (cells_in b k) ≡ false
+    cell_failed z = cells_last p k c l e ∙ rw (sym q ∙ z)
 
-    pub cell_passed : not answer ≡ false → sound_cells p (cells_in b k) ≡ sound_cells p (cells_in b (k - 1))
-    cell_passed z = cells_last p k c l e ∙ rw (passed q z)
+    pub cell_passed : answer ≡ true → sound_cells p (cells_in b k) ≡ sound_cells p (cells_in b (k - 1))
+    cell_passed z = cells_last p k c l e ∙ rw (sym q ∙ z)
 
   pub cells_none : (p : Program) (k : ℕ) → k ≤ 0 → sound_cells p (cells_in b k) ≡ true
   unfolding sound_cells cells_in
@@ -89,39 +85,36 @@ module _ (b : Bytes) where
   frames_last f (suc j) x l e = let q : suc j - 1 ≡ j = omega arith in rw (q, e)
 
   module _ (f : Frame → Bool) (k : ℕ) (x : Frame) (l : 0 < k) (e : x ≡ frame_at b k) {answer : Bool} (q : answer ≡ f x) where
-    pub frame_failed : not answer ≡ true → every f (frames_in b k) ≡ false
-    frame_failed z = frames_last f k x l e ∙ rw (failed q z)
+    pub frame_failed : answer ≡ false → every f (frames_in b k) ≡ false
+    frame_failed z = frames_last f k x l e ∙ rw (sym q ∙ z)
 
-    pub frame_passed : not answer ≡ false → every f (frames_in b k) ≡ every f (frames_in b (k - 1))
-    frame_passed z = frames_last f k x l e ∙ rw (passed q z)
+    pub frame_passed : answer ≡ true → every f (frames_in b k) ≡ every f (frames_in b (k - 1))
+    frame_passed z = frames_last f k x l e ∙ rw (sym q ∙ z)
 
   pub frames_none : (f : Frame → Bool) (k : ℕ) → k ≤ 0 → every f (frames_in b k) ≡ true
   unfolding every frames_in
   frames_none f zero l = refl
   frames_none f (suc k) l = absurd (omega arith)
 
-module _ (f : ThreadRecord → Bool) (d : ThreadRecord) where
-  take_snoc : (xs : List ThreadRecord) (k : ℕ) → k < length xs → every f (take (suc k) xs) ≡ (every f (take k xs) && f (get_or xs k d))
+module _ (f : ThreadRecord → Bool) (d : ThreadRecord) (xs : List ThreadRecord) (k : ℕ) where
+  threads_next : k < length xs → every f (drop k xs) ≡ (f (get_or xs k d) && every f (drop (k + 1) xs))
   unfolding every
-  take_snoc [] k l = absurd (omega arith)
-  take_snoc (x ∷ xs) zero l = and-true (f x)
-  take_snoc (x ∷ xs) (suc k) l = rw (take_snoc xs k (omega arith)) (sym (and_assoc (f x) (every f (take k xs)) (f (get_or xs k d))))
+  threads_next l = let q : k + 1 ≡ suc k = omega arith in rw (q, drop-cons xs k d l)
 
-  threads_last : (xs : List ThreadRecord) (k : ℕ) → 0 < k → k ≤ length xs → every f (take k xs) ≡ (every f (take (k - 1) xs) && f (get_or xs (k - 1) d))
-  threads_last xs zero l m = absurd (omega arith)
-  threads_last xs (suc j) l m = let q : suc j - 1 ≡ j = omega arith in rw q (take_snoc xs j (omega (arith, m)))
+  module _ (l : k < length xs) {answer : Bool} (q : answer ≡ f (get_or xs k d)) where
+    pub thread_failed : answer ≡ false → every f (drop k xs) ≡ false
+    thread_failed z = threads_next l ∙ rw (sym q ∙ z)
 
-  module _ (xs : List ThreadRecord) (k : ℕ) (l : 0 < k) (m : k ≤ length xs) {answer : Bool} (q : answer ≡ f (get_or xs (k - 1) d)) where
-    pub thread_failed : not answer ≡ true → every f (take k xs) ≡ false
-    thread_failed z = threads_last xs k l m ∙ rw (failed q z, and-false)
+    pub thread_passed : answer ≡ true → every f (drop k xs) ≡ every f (drop (k + 1) xs)
+    thread_passed z = threads_next l ∙ rw (sym q ∙ z)
 
-    pub thread_passed : not answer ≡ false → every f (take k xs) ≡ every f (take (k - 1) xs)
-    thread_passed z = threads_last xs k l m ∙ rw (passed q z, and-true)
-
-  pub threads_none : (xs : List ThreadRecord) (k : ℕ) → k ≤ 0 → every f (take k xs) ≡ true
+  pub threads_none : length xs ≤ k → every f (drop k xs) ≡ true
   unfolding every
-  threads_none xs zero l = refl
-  threads_none xs (suc k) l = absurd (omega arith)
+  threads_none l = rw (drop_of_length-le xs {i = k} l)
+
+-- the records of the threads in use, of those that there are
+pub used_only : (xs : List ThreadRecord) (n m : ℕ) → m ≡ min (length xs) n → take m xs ≡ take n xs
+used_only xs n m e = rw (e, min_comm (length xs) n) (take_min n xs)
 
 -- ---- a run whose counts are within the limits
 
@@ -134,9 +127,6 @@ module _ (b : Bytes) (n : InUse) (e : n ≡ in_use b) (w : within_limits n ≡ t
   limits : So (leb n.threads thread_limit) × So (leb n.cells cell_limit) × So (leb n.frames frame_limit)
   unfolding within_limits
   limits = three _ _ _ w
-
-  pub few_threads : (in_use b).threads ≤ thread_limit
-  few_threads = rw (← e) (leb-true _ _ limits.0)
 
   pub in_limits : InLimits b
   in_limits = record { cells = rw (← e) (leb-true _ _ limits.1); frames = rw (← e) (leb-true _ _ limits.2) }

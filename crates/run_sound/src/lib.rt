@@ -13,90 +13,58 @@ use binders::bound;
 use bytes_at::byte_at;
 use machine::{Cell, Frame, Held, Kept, ThreadRecord};
 use run_memory::{InUse, Run, cell_at, frame_at, in_use};
-use thread_records::Records;
 
 // Whether no more is in use than may be.
+#[tactic(auto, unfolding(run_memory::specs::RunMemory::within_limits))]
 fn within_limits(n: InUse) -> bool
     ensures { result ≡ within_limits n }
 {
-    if Run::THREADS < n.threads {
-        return false;
-    }
-    if Run::CELLS < n.cells {
-        return false;
-    }
-    n.frames <= Run::FRAMES
+    n.threads <= Run::THREADS && n.cells <= Run::CELLS && n.frames <= Run::FRAMES
 }
 
 // Whether what a cell keeps is there, where so many are older.
+#[tactic(auto, unfolding(machine::specs::Machine::sound_kept, machine::specs::Machine::row_there))]
 fn sound_kept(rows: u8, older: u16, kept: Kept) -> bool
     ensures { (p : Program) → length p ≡ rows → result ≡ sound_kept p older kept }
 {
     match kept {
-        Kept::Makes => true,
-        Kept::Keeps(held) => match held {
-            Held::Unit => true,
-            Held::Channel(cell) => {
-                if cell == 0 {
-                    return false;
-                }
-                cell <= older
-            }
-            Held::Closure(row, cell) => {
-                if rows <= row {
-                    return false;
-                }
-                cell <= older
-            }
-        },
+        Kept::Makes | Kept::Keeps(Held::Unit) => true,
+        Kept::Keeps(Held::Channel(cell)) => 0 < cell && cell <= older,
+        Kept::Keeps(Held::Closure(row, cell)) => row < rows && cell <= older,
     }
 }
 
 // Whether a cell names what is there, where so many are older.
+#[tactic(auto, unfolding(crate::specs::Known::sound_cell))]
 fn sound_cell(marks: &[u8], rows: u8, older: u16, cell: Cell) -> bool
     ensures { (p : Program) → Known rows marks.now p → result ≡ sound_cell p older cell }
 {
-    if byte_at(marks, cell.name as usize) == 0 {
-        return false;
-    }
-    if older < cell.older {
-        return false;
-    }
-    let kept = cell.kept;
-    sound_kept(rows, older, kept)
+    byte_at(marks, cell.name as usize) != 0
+        && cell.older <= older
+        && sound_kept(rows, older, cell.kept)
 }
 
 // Whether the cells in use do: each names older ones only.
 fn sound_cells(marks: &[u8], rows: u8, run: &[u8]) -> bool
     ensures { (p : Program) → Known rows marks.now p → result ≡ sound_cells p (memory_in run.now).cells }
 {
-    let n = in_use(run);
-    let mut k = n.cells;
-    while 0 < k {
-        let cell = cell_at(run, k);
-        let older = k - 1;
-        if !sound_cell(marks, rows, older, cell) {
+    for k in (1..=in_use(run).cells).rev() {
+        if !sound_cell(marks, rows, k - 1, cell_at(run, k)) {
             return false;
         }
-        k = older;
     }
     true
 }
 
 // Whether a frame names what is there, where so much is in use.
+#[tactic(auto, unfolding(machine::specs::Machine::sound_frame, machine::specs::Machine::row_there))]
 fn sound_frame(marks: &[u8], rows: u8, n: InUse, frame: Frame) -> bool
     ensures { (p : Program) (m : Memory) → Known rows marks.now p → Counted n m → result ≡ sound_frame p m frame }
 {
-    if byte_at(marks, frame.name as usize) == 0 {
-        return false;
-    }
-    if rows <= frame.rest {
-        return false;
-    }
-    if n.cells < frame.cell {
-        return false;
-    }
-    frame.older <= n.frames
+    byte_at(marks, frame.name as usize) != 0
+        && frame.rest < rows
+        && frame.cell <= n.cells
+        && frame.older <= n.frames
 }
 
 // Whether the frames in use do.
@@ -105,62 +73,46 @@ fn sound_frames(marks: &[u8], rows: u8, run: &[u8]) -> bool
     ensures { (p : Program) → Known rows marks.now p → result ≡ every (sound_frame p (memory_in run.now)) (memory_in run.now).frames }
 {
     let n = in_use(run);
-    let mut k = n.frames;
-    while 0 < k {
-        let frame = frame_at(run, k);
-        if !sound_frame(marks, rows, n, frame) {
+    for k in (1..=n.frames).rev() {
+        if !sound_frame(marks, rows, n, frame_at(run, k)) {
             return false;
         }
-        k -= 1;
     }
     true
 }
 
 // Whether a thread names what is there, where so much is in use.
+#[tactic(auto, unfolding(machine::specs::Machine::sound_thread, machine::specs::Machine::row_there))]
 fn sound_thread(rows: u8, n: InUse, t: ThreadRecord) -> bool
     ensures { (p : Program) (m : Memory) → length p ≡ rows → Counted n m → result ≡ sound_thread p m t }
 {
-    if rows <= t.row {
-        return false;
-    }
-    if n.cells < t.cell {
-        return false;
-    }
-    t.frame <= n.frames
+    t.row < rows && t.cell <= n.cells && t.frame <= n.frames
 }
 
-// Whether the threads in use do.
-fn sound_threads(rows: u8, run: &[u8], records: Records) -> bool
-    requires { (in_use run.now).threads ≤ thread_limit }
-    ensures { (p : Program) → length p ≡ rows → result ≡ every (sound_thread p (memory_in run.now)) (take (in_use run.now).threads records.list) }
+// Whether these threads do, those in use.
+fn sound_threads(rows: u8, run: &[u8], threads: &[ThreadRecord]) -> bool
+    ensures { (p : Program) → length p ≡ rows → result ≡ every (sound_thread p (memory_in run.now)) threads.now }
 {
     let n = in_use(run);
-    let mut k = n.threads as usize;
-    while 0 < k {
-        let last = k - 1;
-        let t = records.list[last];
+    for &t in threads {
         if !sound_thread(rows, n, t) {
             return false;
         }
-        k = last;
     }
     true
 }
 
 // 22 of run memory: whether no more is in use than may be, and nothing in use names what is not there.
-pub fn sound_run(store: &[u8], rows: u8, run: &[u8], records: Records) -> bool
-    ensures { result ≡ sound_run (store_program rows store.now) run.now records.list }
+pub fn sound_run(store: &[u8], rows: u8, run: &[u8], threads: &[ThreadRecord]) -> bool
+    ensures { result ≡ sound_run (store_program rows store.now) run.now threads.now }
 {
     let n = in_use(run);
     if !within_limits(n) {
         return false;
     }
     let marks = bound(store, rows);
-    if !sound_cells(&marks, rows, run) {
-        return false;
-    }
-    if !sound_frames(&marks, rows, run) {
-        return false;
-    }
-    sound_threads(rows, run, records)
+    let used = threads.len().min(n.threads as usize);
+    sound_cells(&marks, rows, run)
+        && sound_frames(&marks, rows, run)
+        && sound_threads(rows, run, &threads[..used])
 }

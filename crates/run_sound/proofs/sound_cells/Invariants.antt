@@ -1,5 +1,4 @@
--- The loop's invariant: all cells are sound exactly if those up to number k are. Each turn takes the last of these away, so the loop ends.
--- Where the last is not sound, all are not.
+-- All cells are sound exactly if those that are still to come are: those up to number `k`.
 use mathlib.Core.Path.{◌≡◌}
 use Rattle.program.specs.Program.{Program}
 use Rattle.machine.specs.Machine.{sound_cells}
@@ -10,6 +9,3 @@ use Rattle.run_sound.proofs.sound_cells.Given as goal
 abbrev pub invariant-loop-k : goal.invariant-loop-k
 invariant-loop-k l =
     (p : Program) → Known l.rows l.marks p → sound_cells p (memory_in l.run).cells ≡ sound_cells p (cells_in l.run l.k)
-
-abbrev pub decreases-loop-k : goal.decreases-loop-k
-decreases-loop-k l = l.k
