@@ -1,4 +1,4 @@
--- The run calls on records by value: what opening answers, then the changes of the threads that are named.
+-- The run calls: what opening answers, then the changes of the threads that are named.
 use Rattle.std.specs.Prelude.{Ok, Err}
 use Prim.Native.Nat.{ℕ, zero, suc, ◌≤◌, ◌<◌}
 use native.Mathlib.Omega.{arith}
@@ -24,7 +24,6 @@ use Rattle.run_memory.specs.RunMemory.{in_use, memory_in, machine_in}
 use Rattle.run_calls.specs.RunCalls.{RunAnswer}
 use Rattle.run_calls.specs.RunCalls.{LeavesRun, too_short, store_opened, run_opened, begun_in, begin_with, begin_on, made, move_with, move_on}
 use Rattle.run_calls.proofs.Opened.{long_opened, long_told}
-use Rattle.thread_records.specs.Records.{no_record}
 use Rattle.thread_changes.specs.declared.ThreadChange.{ThreadChange}
 use Rattle.thread_changes.specs.Changes.{change_in}
 use Rattle.meetings.specs.declared.Met.{Met}
@@ -34,6 +33,10 @@ use Rattle.moves.proofs.Making.{none_made}
 use Rattle.run_opening.specs.RunOpening.{RunOpens, RunOpenedIs}
 
 -- ---- a thread by its number
+
+-- what stands in no list
+abbrev no_record : ThreadRecord
+no_record = record { row = 0; cell = 0; frame = 0 }
 
 pub there : (ts : List ThreadRecord) (n k : ℕ) → k < n → n ≤ length ts → thread_at (take n ts) k ≡ some (get_or ts k no_record)
 unfolding thread_at

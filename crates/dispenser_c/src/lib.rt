@@ -14,8 +14,6 @@ ghost use Rattle.run_calls.specs.RunCalls.{run_answer, begin, move, meet};
 ghost use Rattle.packing.specs.Packing.{packed, count_bits, word_bits, number_bits};
 
 use machine::ThreadRecord;
-use packed_run::{begun, met, moved};
-use thread_records::{put_records, records_in};
 
 // The bytes that a store must have.
 #[unsafe(no_mangle)]
@@ -121,12 +119,7 @@ pub extern "C" fn dispenser_begin(store: &[u8], run: &mut [u8], threads: &mut [T
     ensures run_after { run.new ≡ (begin store.now run.old threads.old).run }
     ensures threads_after { threads.new ≡ (begin store.now run.old threads.old).threads }
 {
-    let records = records_in(threads);
-    let left = begun(store, run, records);
-    let after = left.records;
-    let answer = left.answer;
-    put_records(threads, after);
-    answer
+    packed_run::begun(store, run, threads)
 }
 
 // A thread's own move: the threads then in use.
@@ -141,12 +134,7 @@ pub extern "C" fn dispenser_move(
     ensures run_after { run.new ≡ (move store.now run.old threads.old thread).run }
     ensures threads_after { threads.new ≡ (move store.now run.old threads.old thread).threads }
 {
-    let records = records_in(threads);
-    let left = moved(store, run, records, thread);
-    let after = left.records;
-    let answer = left.answer;
-    put_records(threads, after);
-    answer
+    packed_run::moved(store, run, threads, thread)
 }
 
 // A sending and a receiving thread that meet: the threads then in use.
@@ -162,10 +150,5 @@ pub extern "C" fn dispenser_meet(
     ensures run_after { run.new ≡ (meet store.now run.old threads.old sender receiver).run }
     ensures threads_after { threads.new ≡ (meet store.now run.old threads.old sender receiver).threads }
 {
-    let records = records_in(threads);
-    let left = met(store, run, records, sender, receiver);
-    let after = left.records;
-    let answer = left.answer;
-    put_records(threads, after);
-    answer
+    packed_run::met(store, run, threads, sender, receiver)
 }

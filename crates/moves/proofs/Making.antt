@@ -8,9 +8,8 @@ use Rattle.std.specs.Prelude.{None as none, Some as some}
 use mathlib.Core.Path.{◌≡◌, refl, sym, ◌∙◌, ap}
 use lib.ListN.{length, set}
 use lib.Dec.{leb}
-use borrow.Author.Tests.{leb-true, le-leb, lt-leb}
+use borrow.Author.Tests.{leb-true}
 use Rattle.program.proofs.Test.{and_left, and_right}
-use Rattle.format.specs.declared.Reason.{Reason}
 use Rattle.format.specs.declared.Reason.TheVariants.{MoveNotAllowed, LimitExceeded}
 use Rattle.format.specs.Refusals.{refusal}
 use Rattle.format.specs.Text.{Bytes}
@@ -21,13 +20,9 @@ use Rattle.machine.specs.Machine.{Machine, Change, changed_all, within, cell_lim
 use Rattle.run_memory.specs.declared.InUse.{InUse}
 use Rattle.run_memory.specs.RunMemory.{run_size, in_use, counts, has_room, machine_in, push_cell, push_frame, push_thread, push_cells, push_frames, push_threads, bytes_after, placed, threads_after}
 use Rattle.run_memory.proofs.Codec.{cell_pushed}
-use Rattle.run_calls.specs.RunCalls.{RunAnswer}
-use Rattle.run_calls.specs.RunCalls.{RunOutcome, Lends, LeavesRun, bytes_all, threads_all, made}
+use Rattle.run_calls.specs.RunCalls.{Lends, LeavesRun, bytes_all, threads_all, made}
 use Rattle.run_calls.proofs.Left.{Takes, takes_one, takes_two, within_room, within_told, left_all, uses_in, LeftAll}
-use Rattle.thread_records.specs.declared.Records.{Records}
 use Rattle.thread_changes.specs.Changes.{change_of}
-use Rattle.moves.specs.declared.Moved.{Moved}
-use Rattle.moves.specs.Moves.{moved_of}
 
 -- ---- room
 
@@ -131,33 +126,6 @@ module _ (run : Bytes) (ts : List ThreadRecord) (h : Lends run ts) (n : ℕ) (t 
   unfolding bytes_all threads_all bytes_after threads_after push_cells push_frames push_threads placed
   both_made received l sent s e =
       made_accepted run ts h ((n, change_of (received ∷ []) [] t []) ∷ (l, change_of (sent ∷ []) [] s []) ∷ []) (takes_two n l (change_of (received ∷ []) [] t []) (change_of (sent ∷ []) [] s [])) e
-
--- ---- what the code has
-
-module _ (u n : InUse) (a b k : ℕ) (e : n ≡ u) where
-  pub no_cells : cell_limit < a + n.cells → false ≡ has_room u a b k
-  unfolding has_room
-  no_cells l = rw (← e, lt-leb _ _ l)
-
-  pub no_frames : a + n.cells ≤ cell_limit → frame_limit < b + n.frames → false ≡ has_room u a b k
-  unfolding has_room
-  no_frames c l = rw (← e, le-leb _ _ c, lt-leb _ _ l)
-
-  pub no_more : a + n.cells ≤ cell_limit → b + n.frames ≤ frame_limit → leb (k + n.threads) thread_limit ≡ has_room u a b k
-  unfolding has_room
-  no_more c f = rw (← e, le-leb _ _ c, le-leb _ _ f)
-
-module _ {o : RunOutcome} {x : Moved} {r : Records} where
-  pub accepted_leaves : {run run' : Bytes} {ts : List ThreadRecord} → x ≡ moved_of (Ok (in_use run).threads) r → run ≡ run' → r.list ≡ ts
-      → LeavesRun o (Ok (in_use run').threads) run' ts → LeavesRun o x.answer run x.records.list
-  accepted_leaves e q s h = record {
-    answer_is = ap (λ (m : Moved). m.answer) e ∙ ap (λ (b : Bytes). Ok (in_use b).threads) q ∙ h.answer_is;
-    run_is = q ∙ h.run_is;
-    threads_are = ap (λ (m : Moved). m.records.list) e ∙ s ∙ h.threads_are;
-  }
-
-  pub refused_leaves : {reason : Reason} {run : Bytes} → x ≡ moved_of (Err (refusal reason 0)) r → LeavesRun o (Err (refusal reason 0)) run r.list → LeavesRun o x.answer run x.records.list
-  refused_leaves e h = record { answer_is = ap (λ (m : Moved). m.answer) e ∙ h.answer_is; run_is = h.run_is; threads_are = ap (λ (m : Moved). m.records.list) e ∙ h.threads_are }
 
 -- nothing is found: 30
 pub none_made : (run : Bytes) (ts : List ThreadRecord) → LeavesRun (made run ts none) (Err (refusal MoveNotAllowed 0)) run ts

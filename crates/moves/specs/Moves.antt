@@ -1,18 +1,12 @@
--- The answers and moves of the code.
+-- The moves of the code.
 use Rattle.std.specs.Prelude.{ℕ, List, [], ◌∷◌}
 use Rattle.std.specs.Prelude.{Option, Some as some}
 use Rattle.program.specs.Maybe.{◌>>=◌}
 use Rattle.machine.specs.Machine.{Change}
-use Rattle.run_calls.specs.RunCalls.{RunAnswer}
-use Rattle.thread_records.specs.declared.Records.{Records}
 use Rattle.thread_changes.specs.declared.ThreadChange.{ThreadChange}
 use Rattle.thread_changes.specs.Changes.{change_in}
 use Rattle.meetings.specs.declared.Met.{Met}
 use Rattle.meetings.specs.Meetings.{meeting_in}
-use Rattle.moves.specs.declared.Moved.{Moved}
-
-abbrev pub moved_of : RunAnswer → Records → Moved
-moved_of answer records = record { answer = answer; records = records }
 
 -- the changes of a move: of one thread alone, and of a receiver and then a sender
 unfoldable pub alone_in : ℕ → Option ThreadChange → Option (List (ℕ × Change))

@@ -26,7 +26,6 @@ use Rattle.run_calls.proofs.Left.{within_told}
 use Rattle.packing.specs.Packing.{packed, number_bits, Lossless, answer_of}
 use Rattle.packing.specs.Values.{one_value}
 use Rattle.packing.proofs.Unpacking.{unpacked, values_back, refusal_back}
-use Rattle.packed_run.specs.declared.RunLeft.{RunLeft}
 use Rattle.packed_run.specs.PackedRun.{PackedLeaves}
 
 abbrev Packs : RunAnswer → Type 0
@@ -104,5 +103,5 @@ pub move_read : (store run : Bytes) (ts : List ThreadRecord) (o : Order) → let
 move_read store run ts o = run_back (move_on store run (length ts) ts o).answer (move_lossless store run (length ts) ts o)
 
 -- the packed answer
-pub packed_leaves : {o : RunOutcome} {a : RunAnswer} {x : RunLeft} {run : Bytes} {ts : List ThreadRecord} → LeavesRun o a run ts → x.answer ≡ packed number_bits (run_answer a) → x.records.list ≡ ts → PackedLeaves o x run
-packed_leaves h e q = record { answer_is = e ∙ ap (λ (a : RunAnswer). packed number_bits (run_answer a)) h.answer_is; run_is = h.run_is; threads_are = q ∙ h.threads_are }
+pub packed_leaves : {o : RunOutcome} {a : RunAnswer} {x : ℕ} {run : Bytes} {ts : List ThreadRecord} → LeavesRun o a run ts → x ≡ packed number_bits (run_answer a) → PackedLeaves o x run ts
+packed_leaves h e = record { answer_is = e ∙ ap (λ (a : RunAnswer). packed number_bits (run_answer a)) h.answer_is; run_is = h.run_is; threads_are = h.threads_are }

@@ -8,16 +8,9 @@ ghost use Rattle.packing.specs.Packing.{packed, number_bits, Lossless};
 ghost use Rattle.packed_run.specs.PackedRun.{BegunIs, MovedIs, MetIs};
 
 use call_run::{begin_run, meet_threads, move_thread};
+use machine::ThreadRecord;
 use run_calls::RunAnswer;
 use run_memory::Run;
-use thread_records::Records;
-
-// The answer as one number, and the thread records after the call.
-#[derive(Drop)]
-pub struct RunLeft {
-    pub answer: u64,
-    pub records: Records,
-}
 
 // The bytes that run memory must have.
 pub fn run_size() -> u64
@@ -36,46 +29,28 @@ fn pack_run(answer: RunAnswer) -> u64
 }
 
 // Begins a run: the threads in use, which is 1.
-pub fn begun(store: &[u8], run: &mut [u8], records: Records) -> RunLeft
-    ensures { BegunIs store.now run.old records result run.new }
+pub fn begun(store: &[u8], run: &mut [u8], threads: &mut [ThreadRecord]) -> u64
+    ensures { BegunIs store.now run.old threads.old result run.new threads.new }
 {
-    let after = begin_run(store, run, records);
-    let answer = after.answer;
-    let records = after.records;
-    RunLeft {
-        answer: pack_run(answer),
-        records: records,
-    }
+    pack_run(begin_run(store, run, threads))
 }
 
 // A thread's own move: the threads then in use.
-pub fn moved(store: &[u8], run: &mut [u8], records: Records, thread: usize) -> RunLeft
-    ensures { MovedIs store.now run.old records thread result run.new }
+pub fn moved(store: &[u8], run: &mut [u8], threads: &mut [ThreadRecord], thread: usize) -> u64
+    ensures { MovedIs store.now run.old threads.old thread result run.new threads.new }
 {
-    let after = move_thread(store, run, records, thread);
-    let answer = after.answer;
-    let records = after.records;
-    RunLeft {
-        answer: pack_run(answer),
-        records: records,
-    }
+    pack_run(move_thread(store, run, threads, thread))
 }
 
 // A meeting: the threads then in use.
 pub fn met(
     store: &[u8],
     run: &mut [u8],
-    records: Records,
+    threads: &mut [ThreadRecord],
     sender: usize,
     receiver: usize,
-) -> RunLeft
-    ensures { MetIs store.now run.old records sender receiver result run.new }
+) -> u64
+    ensures { MetIs store.now run.old threads.old sender receiver result run.new threads.new }
 {
-    let after = meet_threads(store, run, records, sender, receiver);
-    let answer = after.answer;
-    let records = after.records;
-    RunLeft {
-        answer: pack_run(answer),
-        records: records,
-    }
+    pack_run(meet_threads(store, run, threads, sender, receiver))
 }

@@ -1,12 +1,12 @@
 -- Each kind of change has its function.
 use Rattle.program.specs.Maybe.{◌>>=◌}
 use Rattle.moves.specs.Moves.{alone_in}
-use Rattle.moves.proofs.Making.{none_made, refused_leaves}
+use Rattle.moves.proofs.Making.{none_made}
 use Rattle.moves.proofs.make_change.Goals as goal
 
 pub returns-in_default : goal.returns-in_default
 unfolding alone_in ◌>>=◌
-returns-in_default c = rw c.in_default.is (refused_leaves c.refuse.ensures (none_made _ _))
+returns-in_default c = rw (c.in_default.is, c.at.ensures) (none_made _ _)
 
 pub returns-in-Binds : goal.returns-in-Binds
 unfolding alone_in ◌>>=◌

@@ -3,4 +3,4 @@ use Rattle.packed_run.proofs.RunLossless.{move_lossless}
 use Rattle.packed_run.proofs.met.Goals as goal
 
 pub pack_run-requires : goal.pack_run-requires
-pack_run-requires c = rw c.meet_threads-after.ensures.answer_is (move_lossless _ _ _ _ _)
+pack_run-requires c = rw c.meet_threads.ensures.answer_is (move_lossless _ _ _ _ _)

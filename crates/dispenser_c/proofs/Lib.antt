@@ -1,2 +1,0 @@
--- The functions over a lent list of thread records: what they promise of the whole list.
-pub mod Public
