@@ -1,5 +1,7 @@
 -- The channels that receives listen to and what they hold, each gathered in one set of bytes; and the rule of a sync's receives.
-use Rattle.std.specs.Prelude.{ℕ, ◌+◌, ◌<◌, ◌≤◌, Bool, ◌&&◌, ◌||◌, ◌≡◌, length}
+use Rattle.std.specs.Prelude.{ℕ, ◌+◌, ◌<◌, ◌≤◌, Bool, false, ◌&&◌, ◌||◌, Option, ◌≡◌, length}
+use denote.Ref.{Bor}
+use Rattle.std.specs.Option.{MatchOption}
 use Rattle.program.specs.Maybe.{when, has}
 use Rattle.program.specs.Test.{any}
 use Rattle.program.specs.Program.{Program, chan_row, recv_at}
@@ -20,6 +22,10 @@ pub record Gathered (n : ℕ) (f : ℕ → Set) (s : Bytes) : Type 0 where
   pub size : length s ≡ member_limit
   pub low : (i : ℕ) → byte_at s i < 2
   pub members : (a : Abstract) → member a < member_limit → set_of s a ≡ any n (λ i. f i a)
+
+-- some bytes, if there are any, have the members of t; if there are none, it is empty
+unfoldable pub Gives : Set → Option (Bor Bytes) → Type 0
+Gives t o = MatchOption o ((a : Abstract) → t a ≡ false) λ other. (a : Abstract) → t a ≡ set_of other.now a
 
 -- none of so many rows from row k on is in a set of bytes
 unfoldable pub Free : Bytes → ℕ → ℕ → Type 0

@@ -1,13 +1,14 @@
 // What a sync may receive, as one set: the channels of all receives in its set, and what these channels hold.
 #![tactic(auto)]
 
-ghost use Rattle.std.specs.Prelude.{true, ◌≡◌, ◌<◌, ◌≤◌, length};
+ghost use Rattle.std.specs.Prelude.{ℕ, true, false, ◌≡◌, ◌<◌, ◌≤◌, length};
+ghost use Rattle.program.specs.Flow.{Abstract, row, Set};
 ghost use Rattle.format.specs.Limits.{row_limit};
 ghost use Rattle.calls.specs.Layout.{member_limit};
 ghost use Rattle.store.specs.Rows.{store_program};
 ghost use Rattle.tables.specs.Tables.{store_flow, store_comm};
 ghost use Rattle.sets.specs.Sets.{Sized, set_of};
-ghost use Rattle.received.specs.Received.{Takes, Gathered, Free, hears, gives};
+ghost use Rattle.received.specs.Received.{Takes, Gathered, Gives, Free, hears, gives};
 
 use forms::form_at;
 use program::Form;
@@ -54,19 +55,46 @@ fn block_free(set: &[u8], k: u8) -> bool
     found == 0
 }
 
-// Joins the channels of row k, if it is a recv row in the set of name e.
-#[tactic(auto, using(crate::proofs::Receiving::hears_none, crate::proofs::Receiving::hears_recv, crate::proofs::Receiving::hears_other))]
-fn hear_row(store: &[u8], rows: u8, e: u8, k: u8, set: &mut [u8])
-    requires sized { Sized rows store.now }
-    requires member_limit_in_bounds { member_limit ≤ length set.old }
-    ensures { let bytes = store.now in Takes (hears (store_program rows bytes) (store_flow bytes) e k) set.old set.new }
+// The sets that some rows give, joined. Each of these rows is in the set `among`; `given` is asked what a row gives, if anything.
+#[tactic(auto, unfolding(crate::specs::Received::Gives))]
+fn gather<'a, F: Fn(u8) -> Option<&'a [u8]>>(
+    rows: u8,
+    among: &[u8],
+    given: F,
+) -> [u8; Store::MEMBERS]
+    requires few { rows ≤ row_limit }
+    requires callable { F.IsAlwaysCallable given }
+    ensures { (f : ℕ → Set) → ((k : ℕ) → set_of among.now (row k) ≡ false → (a : Abstract) → f k a ≡ false) → ((k : ℕ) (o : _) → k < rows → F.post given k o → Gives (f k) o) → Gathered rows f result }
 {
-    if flow_has(store, e, k) {
-        let Form::Recv { channel } = form_at(store, rows, k) else {
-            return;
-        };
-        join(set, flow_set(store, channel));
+    let mut set = [0u8; Store::MEMBERS];
+    let mut k = 0;
+    // Not a count: a step is one row or a block of them.
+    while k < rows {
+        if block_free(among, k) {
+            k = (k + BLOCK).min(rows);
+        } else {
+            if let Some(other) = given(k) {
+                join(&mut set, other);
+            }
+            k += 1;
+        }
     }
+    set
+}
+
+// The set of row k's channel, if it is a recv row in the set of name e.
+#[tactic(auto, using(crate::proofs::Receiving::hears_none, crate::proofs::Receiving::hears_recv, crate::proofs::Receiving::hears_other, forms::proofs::Forms::lacks_recv), unfolding(crate::specs::Received::Gives))]
+fn heard_at(store: &[u8], rows: u8, e: u8, k: u8) -> Option<&[u8]>
+    requires { Sized rows store.now }
+    ensures { let bytes = store.now in Gives (hears (store_program rows bytes) (store_flow bytes) e k) result }
+{
+    if !flow_has(store, e, k) {
+        return None;
+    }
+    let Form::Recv { channel } = form_at(store, rows, k) else {
+        return None;
+    };
+    Some(flow_set(store, channel))
 }
 
 // The channels of all receives in the set of name e.
@@ -74,34 +102,23 @@ pub fn heard(store: &[u8], rows: u8, e: u8) -> [u8; Store::MEMBERS]
     requires { Sized rows store.now }
     ensures { let bytes = store.now in Gathered rows (hears (store_program rows bytes) (store_flow bytes) e) result }
 {
-    let events = flow_set(store, e);
-    let mut set = [0u8; Store::MEMBERS];
-    let mut k = 0;
-    // Not a count: a step is one row or a block of them.
-    while k < rows {
-        if block_free(events, k) {
-            k = (k + BLOCK).min(rows);
-        } else {
-            hear_row(store, rows, e, k, &mut set);
-            k += 1;
-        }
-    }
-    set
+    gather(rows, flow_set(store, e), |k| heard_at(store, rows, e, k))
 }
 
-// Joins what row k holds, if it is a chan row among the channels.
-#[tactic(auto, using(crate::proofs::Receiving::gives_none, crate::proofs::Receiving::gives_chan, crate::proofs::Receiving::gives_other, crate::proofs::Receiving::among))]
-fn give_row(store: &[u8], rows: u8, channels: &[u8], k: u8, set: &mut [u8])
+// The set of row k, if it is a chan row among the channels.
+#[tactic(auto, using(crate::proofs::Receiving::gives_none, crate::proofs::Receiving::gives_chan, crate::proofs::Receiving::gives_other, crate::proofs::Receiving::among), unfolding(crate::specs::Received::Gives))]
+fn held_at<'a>(store: &'a [u8], rows: u8, channels: &[u8], k: u8) -> Option<&'a [u8]>
     requires sized { Sized rows store.now }
-    requires member_limit_in_bounds { (member_limit ≤ length channels.now) × (member_limit ≤ length set.old) }
-    ensures { let bytes = store.now in Takes (gives (store_program rows bytes) (store_comm bytes) (set_of channels.now) k) set.old set.new }
+    requires member_limit_in_bounds { member_limit ≤ length channels.now }
+    ensures { let bytes = store.now in Gives (gives (store_program rows bytes) (store_comm bytes) (set_of channels.now) k) result }
 {
-    if 0 < read_text::byte_at(channels, k as usize + 1) {
-        let Form::Chan = form_at(store, rows, k) else {
-            return;
-        };
-        join(set, comm_set(store, k));
+    if read_text::byte_at(channels, k as usize + 1) == 0 {
+        return None;
     }
+    let Form::Chan = form_at(store, rows, k) else {
+        return None;
+    };
+    Some(comm_set(store, k))
 }
 
 // What the channels hold, of a set of rows.
@@ -110,16 +127,5 @@ pub fn held(store: &[u8], rows: u8, channels: &[u8]) -> [u8; Store::MEMBERS]
     requires member_limit_in_bounds { member_limit ≤ length channels.now }
     ensures { let bytes = store.now in Gathered rows (gives (store_program rows bytes) (store_comm bytes) (set_of channels.now)) result }
 {
-    let mut set = [0u8; Store::MEMBERS];
-    let mut k = 0;
-    // Not a count: a step is one row or a block of them.
-    while k < rows {
-        if block_free(channels, k) {
-            k = (k + BLOCK).min(rows);
-        } else {
-            give_row(store, rows, channels, k, &mut set);
-            k += 1;
-        }
-    }
-    set
+    gather(rows, channels, |k| held_at(store, rows, channels, k))
 }
