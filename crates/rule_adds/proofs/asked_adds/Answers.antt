@@ -1,4 +1,5 @@
 -- `asked_adds` meets its contract: what an ask asks of a row of the form that it looks for, and nothing of a row of another form.
+use native.Mathlib.Omega.{arith}
 use mathlib.Core.Path.{◌∙◌}
 use Rattle.asks.specs.Asks.{Names}
 use Rattle.program.specs.Maybe.{when}
@@ -11,11 +12,13 @@ use Rattle.rule_adds.proofs.asked_adds.Goals as goal
 
 pub add_set-requires-clause-from_bound : goal.add_set-requires-clause-from_bound
 unfolding number_of
-add_set-requires-clause-from_bound c = ((pair_low c.requires.ready _ c.form_at.ensures c.in-First-Pair.is-1).0, c.requires.n_lt_row_limit.0)
+add_set-requires-clause-from_bound c =
+    let (first, second) = pair_low c.requires.ready _ c.form_at.ensures c.in-First-Pair.is-1 in (omega (arith, first, second), c.requires.n_lt_row_limit.0)
 
 pub add_set-requires-in-Second-Pair-clause-from_bound : goal.add_set-requires-in-Second-Pair-clause-from_bound
 unfolding number_of
-add_set-requires-in-Second-Pair-clause-from_bound c = ((pair_low c.requires.ready _ c.form_at.ensures c.in-Second-Pair.is-1).1, c.requires.n_lt_row_limit.0)
+add_set-requires-in-Second-Pair-clause-from_bound c =
+    let (first, second) = pair_low c.requires.ready _ c.form_at.ensures c.in-Second-Pair.is-1 in (omega (arith, first, second), c.requires.n_lt_row_limit.0)
 
 pub both_add-requires : goal.both_add-requires
 unfolding AskLow
