@@ -18,7 +18,7 @@ use set_adds::{Variable, add_set};
 use tables::flow_has;
 
 // What a form asks of each row in its set: its kind, and the names whose sets it compares with that of the row. Of a sync, what it sends; what it receives is asked of all rows together (recv_adds).
-// Not the Ask of asks, which has no Send: shared, it would be wrapped wherever one is made or matched.
+// Not the Ask of asks, which has no Send: shared, it would be wrapped wherever one is made or matched. And no closure for each row: it would change the store that it captures, of which no proof is had then.
 #[derive(Clone, Copy)]
 pub enum Ask {
     Send,
