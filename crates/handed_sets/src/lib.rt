@@ -18,9 +18,7 @@ pub fn mark_members(unit: bool, list: &[u8], allowed: &[u8], set: &mut [u8]) -> 
         set[0] = 1;
     }
     let mut least = 0;
-    let mut i = 0;
-    while i < list.len() {
-        let row = byte_at(list, i);
+    for &row in list {
         let r = row as usize;
         let m = r + 1;
         if r < least {
@@ -31,7 +29,6 @@ pub fn mark_members(unit: bool, list: &[u8], allowed: &[u8], set: &mut [u8]) -> 
         }
         set[m] = 1;
         least = m;
-        i += 1;
     }
     true
 }
@@ -42,12 +39,5 @@ pub fn swap_set(store: &mut [u8], at: usize, set: &mut [u8])
     ensures store_after { store.new ≡ sets store.old at set.old }
     ensures set_after { set.new ≡ take (length set.old) (drop at store.old) }
 {
-    let mut i = 0;
-    while i < set.len() {
-        let p = at + i;
-        let old = store[p];
-        store[p] = set[i];
-        set[i] = old;
-        i += 1;
-    }
+    store[at..at + set.len()].swap_with_slice(set);
 }

@@ -5,8 +5,8 @@ use native.Mathlib.Decide.{dec_lt}
 use mathlib.Core.List.{List, [], ◌∷◌}
 use mathlib.Core.Path.{◌≡◌, refl}
 use lib.ListN.{get_or}
-use lib.Dec.{eqb}
-use borrow.Author.Tests.{eqb-true, ne_eqb, lt-ltb, le-ltb}
+use lib.Dec.{eqb, leb}
+use borrow.Author.Tests.{eqb-true, leb-true, ne_eqb, lt-ltb, le-ltb}
 use Rattle.program.specs.Test.{all}
 use Rattle.program.proofs.Test.{all_elim}
 use Rattle.format.specs.Forms.{arity}
@@ -56,4 +56,13 @@ place_below k =
         | yes l ↦ rw (le-ltb k 2 (omega arith), lt-ltb 15 k l) (omega arith)
         | no m ↦ rw (le-ltb k 2 (omega arith), le-ltb 15 k (omega arith)) (omega arith)
       ]
+    ]
+
+-- no form holds more than five numbers
+pub arity_small : (k : ℕ) → arity k ≤ 5
+unfolding all arity
+arity_small k =
+    elim (dec_lt k 16) [
+      | yes l ↦ leb-true (arity k) 5 (all_elim 16 (λ k. leb (arity k) 5) refl k l)
+      | no g ↦ rw (arity_past k (omega arith)) (omega arith)
     ]

@@ -33,7 +33,6 @@ use Rattle.store.proofs.Document.{head_is}
 use Rattle.progress.specs.declared.Progress.{Progress}
 use Rattle.progress.specs.Progress.{Matches}
 use Rattle.load_line.specs.Line.{Stored, Past}
-use Rattle.load_lines.specs.declared.FileRead.{FileRead}
 use Rattle.load_lines.specs.File.{FileAnswer, FileIs}
 use Rattle.load_file.specs.Finish.{Finishes}
 
@@ -133,23 +132,23 @@ module _ (file store : Bytes) (left : Bytes) (short : length file ≤ byte_limit
   past_same : Past cleared left → drop store_size left ≡ drop store_size store
   past_same h = h.rest_stays ∙ zeros_dropped store_size (drop store_size store)
 
-  pub lines_refused : (r : Refusal) {a : LoadAnswer} {next : Bytes} → FileIs (read_file file) cleared (FileRead.Refused r) left → Leaves (loaded left (refused r)) a next
+  pub lines_refused : (r : Refusal) {a : LoadAnswer} {next : Bytes} → FileIs (read_file file) cleared (Err r) left → Leaves (loaded left (refused r)) a next
       → Leaves (loaded store (check file)) a next
   unfolding check_structure
   lines_refused r {a} {next} h l = go (read_file file) refl h.answers
     where
-      go : (x : Result Document) → read_file file ≡ x → FileAnswer x (FileRead.Refused r) left → Leaves (loaded store (check file)) a next
+      go : (x : Result Document) → read_file file ≡ x → FileAnswer x (Err r) left → Leaves (loaded store (check file)) a next
       go (refused q) e k =
           let same : r ≡ q = cc in
           rw (check_is, e, ← same, ← same_past left store (refused r) (past_same h.past)) l
       go (accepted d) e k = let w = k.answer_is in let z : ◌≡◌ {A = ℕ} 0 1 = cc in absurd (omega arith)
 
-  pub lines_accepted : (p : Progress) {a : LoadAnswer} {next : Bytes} → FileIs (read_file file) cleared (FileRead.Accepted p) left → Finishes p left a next
+  pub lines_accepted : (p : Progress) {a : LoadAnswer} {next : Bytes} → FileIs (read_file file) cleared (Ok p) left → Finishes p left a next
       → Leaves (loaded store (check file)) a next
   unfolding check_structure
   lines_accepted p {a} {next} h l = go (read_file file) refl h.answers
     where
-      go : (x : Result Document) → read_file file ≡ x → FileAnswer x (FileRead.Accepted p) left → Leaves (loaded store (check file)) a next
+      go : (x : Result Document) → read_file file ≡ x → FileAnswer x (Ok p) left → Leaves (loaded store (check file)) a next
       go (refused q) e k = let z : ◌≡◌ {A = ℕ} 0 1 = cc in absurd (omega arith)
       go (accepted d) e k =
           let w = k.answer_is in
@@ -158,10 +157,10 @@ module _ (file store : Bytes) (left : Bytes) (short : length file ≤ byte_limit
           (l.finishes d (print_read file d e).1 k.stored (subst (λ (q : Progress). Matches d q) (sym same) k.matches))
 
 -- the rows of a file that has been read are within the limit
-pub rows_small : (x : Result Document) (p : Progress) {store left : Bytes} → FileIs x store (FileRead.Accepted p) left → p.rows ≤ row_limit
+pub rows_small : (x : Result Document) (p : Progress) {store left : Bytes} → FileIs x store (Ok p) left → p.rows ≤ row_limit
 rows_small x p {store} {left} h = go x h.answers
   where
-    go : (y : Result Document) → FileAnswer y (FileRead.Accepted p) left → p.rows ≤ row_limit
+    go : (y : Result Document) → FileAnswer y (Ok p) left → p.rows ≤ row_limit
     go (refused r) k = let z : ◌≡◌ {A = ℕ} 0 1 = cc in absurd (omega arith)
     go (accepted d) k =
         let w = k.answer_is in

@@ -11,7 +11,6 @@ ghost use Rattle.load_file.specs.Finish.{Finishes};
 
 use calls::{Counts, LoadAnswer};
 use format::{Reason, Refusal};
-use load_lines::FileRead;
 use progress::Progress;
 use store::Store;
 
@@ -52,7 +51,7 @@ pub fn load_file(file: &[u8], store: &mut [u8]) -> LoadAnswer
     }
     store::clear(store);
     match load_lines::load_lines(file, store) {
-        FileRead::Refused(refusal) => refuse(store, refusal),
-        FileRead::Accepted(p) => finish(store, p),
+        Err(refusal) => refuse(store, refusal),
+        Ok(p) => finish(store, p),
     }
 }

@@ -1,10 +1,11 @@
 -- What a function that reads a line answers, from what it read: no line, a faulty line, or a line that is kept.
-use Prim.Native.Nat.{ℕ, ◌+◌, ◌*◌, ◌≤◌, ◌<◌}
-use mathlib.Core.List.{List, [], ◌∷◌}
-use Rattle.std.specs.Prelude.{Option, None as none, Some as some}
+use Prim.Native.Nat.{ℕ, ◌+◌, ◌-◌, ◌*◌, ◌≤◌, ◌<◌}
+use mathlib.Core.List.{List, [], ◌∷◌, ◌++◌}
+use Rattle.std.specs.Prelude.{Option, None as none, Some as some, Ok, Err}
+use Rattle.std.specs.Option.{ok_or}
 use mathlib.Core.Path.{◌≡◌, refl, sym, ap, ◌∙◌, subst}
 use native.Mathlib.Omega.{arith}
-use lib.ListN.{length, set, replicate}
+use lib.ListN.{length, set, take, drop, replicate}
 use lib.Seq.{sets}
 use Rattle.program.specs.declared.Row.{Row}
 use Rattle.program.specs.declared.Word.{Word}
@@ -21,18 +22,17 @@ use Rattle.calls.specs.Layout.{store_size, row_size, member_limit, row_bytes, fl
 use Rattle.calls.proofs.Codec.Rows.{row_size_lem}
 use Rattle.calls.proofs.Codec.Sets.{flags_length}
 use Rattle.calls.proofs.Patches.{patch, sets_patched, set_patched, patched_length, patched_take, patched_drop}
+use Rattle.store.proofs.Laws.{placed}
 use Rattle.raw_rows.specs.Raw.{row_above}
 use Rattle.read_sets.specs.declared.SetFault.{SetFault}
-use Rattle.read_sets.specs.declared.SetRead.{SetRead}
 use Rattle.read_sets.specs.Sets.{set_fault, marks, SetIs}
 use Rattle.read_sets.proofs.Marks.{marks_flags}
 use Rattle.read_sets.proofs.Members.{set_found, set_missing}
 use Rattle.progress.specs.declared.Progress.{Progress}
-use Rattle.load_line.specs.declared.LineRead.{LineRead}
 use Rattle.progress.specs.declared.Table.{Table}
 use Rattle.progress.specs.declared.Table.TheVariants.{Flow, Comm}
 use Rattle.progress.specs.Progress.{Matches, Small}
-use Rattle.load_line.specs.Line.{Past, LineKept, FaultIs, AnswerIs, LineIs, read_rest}
+use Rattle.load_line.specs.Line.{Past, LineRead, LineKept, FaultIs, AnswerIs, LineIs, read_rest}
 use Rattle.progress.specs.Lines.{section_of, set_line, place_of, with_row, with_set, with_claim, row_line_fault, set_line_fault, claim_line_fault}
 use Rattle.progress.proofs.Faults.{row_fault_lem, set_fault_lem, claim_fault, row_fits, set_fits, claim_fits}
 use Rattle.progress.proofs.Adding.{row_matches, set_matches, claim_matches, row_stored, set_stored, claim_stored, row_small, set_small, claim_small}
@@ -42,33 +42,39 @@ untouched store = record { length_stays = refl; rest_stays = refl }
 
 module _ (line : Option (Line × ℕ)) (p : Progress) (store : Bytes) where
   -- no line was read
-  pub unread : line ≡ none → LineIs line p store (LineRead.Refused NotALine) store
-  unread e = record { past = untouched store; small = tt; answers = λ d s m. subst (λ (o : Option (Line × ℕ)). AnswerIs d o (LineRead.Refused NotALine) store) (sym e) refl }
+  pub unread : line ≡ none → LineIs line p store (Err NotALine) store
+  unread e = record { past = untouched store; small = tt; answers = λ d s m. subst (λ (o : Option (Line × ℕ)). AnswerIs d o (Err NotALine) store) (sym e) refl }
+
+  -- a part of it was not found, which is told as no line
+  pub turned_back : {A : Type 0} {o : Option A} {x y : Reason} → x ≡ y → Err y ≡ ok_or o NotALine → o ≡ none → line ≡ none → LineIs line p store (Err x) store
+  turned_back {o = o} {x} {y} same told missing e =
+      let reason : y ≡ NotALine = cc (told, missing) in
+      rw (same ∙ reason) (unread e)
 
   -- a line was read, and it is faulty
   pub faulty : (l : Line) (next : ℕ) (reason : Reason) → line ≡ some (l, next) → ((d : Document) → Matches d p → line_fault d l ≡ some reason)
-      → LineIs line p store (LineRead.Refused reason) store
+      → LineIs line p store (Err reason) store
   faulty l next reason e h = record {
     past = untouched store;
     small = tt;
     answers = λ d s m.
-        subst (λ (o : Option (Line × ℕ)). AnswerIs d o (LineRead.Refused reason) store) (sym e)
-        (subst (λ (o : Option Reason). FaultIs d l next o (LineRead.Refused reason) store) (sym (h d m)) refl);
+        subst (λ (o : Option (Line × ℕ)). AnswerIs d o (Err reason) store) (sym e)
+        (subst (λ (o : Option Reason). FaultIs d l next o (Err reason) store) (sym (h d m)) refl);
   }
 
   -- a line was read and kept, with a part of the store replaced
   pub kept : (l : Line) (next : ℕ) (q : Progress) (at : ℕ) (new : Bytes) → line ≡ some (l, next) → Small q → at + length new ≤ store_size → store_size ≤ length store
       → ((d : Document) → Matches d p → (line_fault d l ≡ none) × Matches (add d l) q × (encode (add d l) ≡ patch at new (encode d)))
-      → LineIs line p store (LineRead.Kept q next) (patch at new store)
+      → LineIs line p store (Ok (q, next)) (patch at new store)
   kept l next q at new e small within long h = record {
     past = record { length_stays = patched_length store at new (omega arith); rest_stays = patched_drop store_size store at new within long };
     small = small;
     answers = λ d s m.
         let (f, k, c) = h d m in
-        let r : LineKept d l next (LineRead.Kept q next) (patch at new store) =
+        let r : LineKept d l next (Ok (q, next)) (patch at new store) =
         record { progress = q; answer_is = refl; matches = k; stored = patched_take store_size store at new within long ∙ ap (patch at new) s ∙ sym c } in
-        subst (λ (o : Option (Line × ℕ)). AnswerIs d o (LineRead.Kept q next) (patch at new store)) (sym e)
-        (subst (λ (o : Option Reason). FaultIs d l next o (LineRead.Kept q next) (patch at new store)) (sym f) r);
+        subst (λ (o : Option (Line × ℕ)). AnswerIs d o (Ok (q, next)) (patch at new store)) (sym e)
+        (subst (λ (o : Option Reason). FaultIs d l next o (Ok (q, next)) (patch at new store)) (sym f) r);
   }
 
 -- ---- a row's line
@@ -79,11 +85,11 @@ unfolding read_rest read_content ◌>>=◌
 row_read_lem s at n x e next h k = rw (h, k)
 
 module _ (line : Option (Line × ℕ)) (p : Progress) (store : Bytes) (n : ℕ) (x : Row) (next : ℕ) (read : line ≡ some (row n x, next)) where
-  pub row_refused : (reason : Reason) → row_line_fault p n (row_above x) ≡ some reason → LineIs line p store (LineRead.Refused reason) store
+  pub row_refused : (reason : Reason) → row_line_fault p n (row_above x) ≡ some reason → LineIs line p store (Err reason) store
   row_refused reason h = faulty line p store (row n x) next reason read (λ d m. row_fault_lem d p m n x ∙ h)
 
   pub row_kept : Small p → store_size ≤ length store → row_line_fault p n (row_above x) ≡ none
-      → LineIs line p store (LineRead.Kept (with_row p) next) (sets store (n * row_size) (row_bytes x))
+      → LineIs line p store (Ok (with_row p, next)) (sets store (n * row_size) (row_bytes x))
   row_kept small long h =
       let (low, own, count) = row_fits p n (row_above x) h in
       let s : length (row_bytes x) ≡ row_size = row_size_lem x in
@@ -112,16 +118,16 @@ module _ (t : Table) (s : Bytes) (at n : ℕ) where
   unfolding read_rest ◌>>=◌
   cut_of e ms o k = rw (content_of t n s at, o, k)
 
-module _ (t : Table) (s : Bytes) (at n : ℕ) (flags left : Bytes) {r : SetRead} (h : SetIs set_fault (read_set s at) flags r left) where
-  pub set_line_missing : r ≡ SetRead.Missing → read_rest (section_of t) n s at ≡ none
+module _ (t : Table) (s : Bytes) (at n : ℕ) (flags left : Bytes) {r : Option (ℕ × Option SetFault)} (h : SetIs set_fault (read_set s at) flags r left) where
+  pub set_line_missing : r ≡ none → read_rest (section_of t) n s at ≡ none
   unfolding read_rest ◌>>=◌
   set_line_missing e = rw (content_of t n s at, set_missing (read_set s at) flags _ left h e)
 
-  pub set_line_cut : {e : ℕ} {f : SetFault} → r ≡ SetRead.Found e f → expect (ascii "]\n") s e ≡ none → read_rest (section_of t) n s at ≡ none
+  pub set_line_cut : {e : ℕ} {f : Option SetFault} → r ≡ some (e, f) → expect (ascii "]\n") s e ≡ none → read_rest (section_of t) n s at ≡ none
   set_line_cut q k = let x = set_found (read_set s at) flags _ left h q in cut_of t s at n _ x.members x.reads k
 
   -- the line that was read, the fault of its set, and its members' bytes
-  pub set_line_lem : {e next : ℕ} {f : SetFault} → r ≡ SetRead.Found e f → expect (ascii "]\n") s e ≡ some next → flags ≡ replicate member_limit 0
+  pub set_line_lem : {e next : ℕ} {f : Option SetFault} → r ≡ some (e, f) → expect (ascii "]\n") s e ≡ some next → flags ≡ replicate member_limit 0
       → (ms : List ℕ) × (read_rest (section_of t) n s at ≡ some (set_line t n ms, next)) × (f ≡ set_fault ms) × (left ≡ flags_of ms)
   set_line_lem q k z =
       let x = set_found (read_set s at) flags _ left h q in
@@ -131,23 +137,19 @@ place_within : (t : Table) (n : ℕ) → n < row_limit → place_of t n + member
 place_within Flow n l = omega arith
 place_within Comm n l = omega arith
 
-pub set_room : (t : Table) (p : Progress) (n m : ℕ) (f : SetFault) (flags : Bytes) (ms : List ℕ) → store_size ≤ m → set_line_fault t p n f ≡ none → flags ≡ flags_of ms
-    → place_of t n + length flags ≤ m
-set_room t p n m f flags ms long h e =
-    let q : length flags ≡ member_limit = ap length e ∙ flags_length ms in
-    let w : place_of t n + member_limit ≤ store_size = place_within t n (set_fits t p n f h).0 in
-    omega arith
+pub set_room : (t : Table) (p : Progress) (n m : ℕ) (f : Option SetFault) → store_size ≤ m → set_line_fault t p n f ≡ none → place_of t n + member_limit ≤ m
+set_room t p n m f long h = let w : place_of t n + member_limit ≤ store_size = place_within t n (set_fits t p n f h).0 in omega arith
 
 module _ (t : Table) (line : Option (Line × ℕ)) (p : Progress) (store : Bytes) (n : ℕ) (ms : List ℕ) (next : ℕ)
-    (read : line ≡ some (set_line t n ms, next)) (f : SetFault) (fault_is : f ≡ set_fault ms) where
+    (read : line ≡ some (set_line t n ms, next)) (f : Option SetFault) (fault_is : f ≡ set_fault ms) where
   line_fault_lem : (o : Option Reason) → set_line_fault t p n f ≡ o → (d : Document) → Matches d p → line_fault d (set_line t n ms) ≡ o
   line_fault_lem o h d m = set_fault_lem d p m t n ms ∙ ap (set_line_fault t p n) (sym fault_is) ∙ h
 
-  pub set_refused : (reason : Reason) → set_line_fault t p n f ≡ some reason → LineIs line p store (LineRead.Refused reason) store
+  pub set_refused : (reason : Reason) → set_line_fault t p n f ≡ some reason → LineIs line p store (Err reason) store
   set_refused reason h = faulty line p store (set_line t n ms) next reason read (line_fault_lem (some reason) h)
 
-  pub set_kept : Small p → store_size ≤ length store → set_line_fault t p n f ≡ none
-      → LineIs line p store (LineRead.Kept (with_set t (n + 1) p) next) (sets store (place_of t n) (flags_of ms))
+  set_kept : Small p → store_size ≤ length store → set_line_fault t p n f ≡ none
+      → LineIs line p store (Ok (with_set t (n + 1) p, next)) (sets store (place_of t n) (flags_of ms))
   set_kept small long h =
       let (low, rise) = set_fits t p n f h in
       let s : length (flags_of ms) ≡ member_limit = flags_length ms in
@@ -157,6 +159,15 @@ module _ (t : Table) (line : Option (Line × ℕ)) (p : Progress) (store : Bytes
       (kept line p store (set_line t n ms) next (with_set t (n + 1) p) (place_of t n) (flags_of ms) read (set_small p small t n low rise) within long
       λ d m. (line_fault_lem none h d m, set_matches d p m t n ms rise, set_stored d p m t n ms low rise))
 
+  -- the flags put in the place of the set
+  pub set_put : Small p → store_size ≤ length store → set_line_fault t p n f ≡ none
+      → LineIs line p store (Ok (with_set t (n + 1) p, next)) (take (place_of t n) store ++ (flags_of ms ++ drop (place_of t n + member_limit - place_of t n) (drop (place_of t n) store)))
+  set_put small long h =
+      let s : length (flags_of ms) ≡ member_limit = flags_length ms in
+      let e : place_of t n + member_limit ≡ place_of t n + length (flags_of ms) = omega arith in
+      subst (λ (left : Bytes). LineIs line p store (Ok (with_set t (n + 1) p, next)) left)
+      (sym (placed (place_of t n) (place_of t n + member_limit) store (flags_of ms) e (set_room t p n (length store) f long h))) (set_kept small long h)
+
 -- ---- a claim's line
 
 pub claim_read : (s : Bytes) (at n : ℕ) (w : Word) (e next : ℕ) → one_of claim_words s at ≡ some (w, e) → expect (ascii "]\n") s e ≡ some next
@@ -165,11 +176,11 @@ unfolding read_rest read_content ◌>>=◌
 claim_read s at n w e next h k = rw (h, k)
 
 module _ (line : Option (Line × ℕ)) (p : Progress) (store : Bytes) (n : ℕ) (w : Word) (next : ℕ) (read : line ≡ some (claim (record { channel = n; word = w }), next)) where
-  pub claim_refused : (reason : Reason) → claim_line_fault p n ≡ some reason → LineIs line p store (LineRead.Refused reason) store
+  pub claim_refused : (reason : Reason) → claim_line_fault p n ≡ some reason → LineIs line p store (Err reason) store
   claim_refused reason h = faulty line p store (claim (record { channel = n; word = w })) next reason read (λ d m. claim_fault d p m n w ∙ h)
 
   pub claim_kept : Small p → store_size ≤ length store → claim_line_fault p n ≡ none
-      → LineIs line p store (LineRead.Kept (with_claim (n + 1) p) next) (set store (claim_at n) (word_code w))
+      → LineIs line p store (Ok (with_claim (n + 1) p, next)) (set store (claim_at n) (word_code w))
   claim_kept small long h =
       let (low, rise) = claim_fits p n h in
       let within : claim_at n + 1 ≤ store_size = omega arith in

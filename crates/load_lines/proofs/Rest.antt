@@ -1,6 +1,6 @@
 -- Reading on: what has been read is that of a document, and what is left to read decides the file.
 use Prim.Native.Nat.{ℕ, zero, suc, ◌+◌, ◌-◌, ◌≤◌, ◌<◌}
-use Rattle.std.specs.Prelude.{Option, None as none, Some as some}
+use Rattle.std.specs.Prelude.{Option, None as none, Some as some, Ok, Err}
 use mathlib.Core.Path.{◌≡◌, refl, sym, ap, ◌∙◌, subst}
 use mathlib.Core.Logic.{◌≢◌}
 use native.Mathlib.Omega.{arith}
@@ -21,10 +21,9 @@ use Rattle.format.specs.Document.{Document, Line}
 use Rattle.format.specs.Read.{present, read_line, line_fault, add, no_lines, read_lines, read_file}
 use Rattle.calls.specs.Layout.{store_size}
 use Rattle.progress.specs.declared.Progress.{Progress}
-use Rattle.load_line.specs.declared.LineRead.{LineRead}
-use Rattle.load_lines.specs.declared.FileRead.{FileRead}
+use Rattle.load_lines.specs.Answers.{FileRead}
 use Rattle.progress.specs.Progress.{Matches, Small}
-use Rattle.load_line.specs.Line.{SmallAnswer, Stored, Past, FaultIs, AnswerIs, LineIs}
+use Rattle.load_line.specs.Line.{LineRead, SmallAnswer, Stored, Past, FaultIs, AnswerIs, LineIs}
 use Rattle.load_lines.specs.File.{line_refusal, FileKept, FileAnswer, FileIs}
 use Rattle.progress.proofs.Faults.{present-length}
 
@@ -40,9 +39,9 @@ pub record Reading (file : Bytes) (start : ℕ) (store₀ store : Bytes) (at lin
 abbrev pub nothing : Progress
 nothing = record { rows = 0; flows = 0; comms = 0; claims = 0; flow_least = 0; comm_least = 0; claim_least = 0 }
 
-pub begin : (file : Bytes) (start : ℕ) (store : Bytes) → Stored store no_lines → Reading file start store store start 2 nothing (length file)
+pub begin : (file : Bytes) (start : ℕ) (store : Bytes) → Stored store no_lines → Reading file start store store start 2 nothing (length file + 2 - 2)
 unfolding no_lines every
-begin file start store s = record {
+begin file start store s = let all : length file + 2 - 2 ≡ length file = omega arith in rw all (record {
   doc = no_lines;
   past = record { length_stays = refl; rest_stays = refl };
   stored = s;
@@ -67,7 +66,7 @@ begin file start store s = record {
   };
   lines = omega arith;
   same = refl;
-}
+})
 
 -- ---- one round of the definition
 
@@ -101,6 +100,9 @@ module _ (s : Bytes) (at line : ℕ) (d : Document) where
       let q : suc k - 1 ≡ k = omega arith in
       rw (ne_eqb at (length s) n, read_lines) (rw (o, f) (ap (λ (m : ℕ). read_lines m s next (line + 1) (add d l)) (sym q)))
 
+kept_same : (x y : Progress × ℕ) → ◌≡◌ {A = LineRead} (Ok x) (Ok y) → x ≡ y
+kept_same x y e = cc
+
 past_trans : {a b c : Bytes} → Past a b → Past b c → Past a c
 past_trans h k = record { length_stays = k.length_stays ∙ h.length_stays; rest_stays = k.rest_stays ∙ h.rest_stays }
 
@@ -113,19 +115,19 @@ module _ (file : Bytes) (start : ℕ) (store₀ store : Bytes) (at line : ℕ) (
   still : Past store store
   still = record { length_stays = refl; rest_stays = refl }
 
-  pub at_end_empty : 0 < left → at ≡ length file → p.rows ≡ 0 → FileIs (read_lines (length file) file start 2 no_lines) store₀ (FileRead.Refused (refusal OutOfCount line)) store
+  pub at_end_empty : 0 < left → at ≡ length file → p.rows ≡ 0 → FileIs (read_lines (length file) file start 2 no_lines) store₀ (Err (refusal OutOfCount line)) store
   at_end_empty h e z =
       decided (refused (refusal OutOfCount line)) _ store
       (read_end file at line r.doc left h e ∙ rw (present-length r.doc.rows p.rows r.matches.rows_are, le-ltb 0 p.rows (omega arith)))
       still refl
 
-  pub at_end : 0 < left → at ≡ length file → p.rows ≢ 0 → FileIs (read_lines (length file) file start 2 no_lines) store₀ (FileRead.Accepted p) store
+  pub at_end : 0 < left → at ≡ length file → p.rows ≢ 0 → FileIs (read_lines (length file) file start 2 no_lines) store₀ (Ok p) store
   at_end h e z =
       let there : 0 < p.rows = elim (dec_lt 0 p.rows) [ yes q ↦ q | no q ↦ absurd (z (omega arith)) ] in
-      let k : FileKept r.doc (FileRead.Accepted p) store = record { progress = p; answer_is = refl; matches = r.matches; stored = r.stored } in
+      let k : FileKept r.doc (Ok p) store = record { progress = p; answer_is = refl; matches = r.matches; stored = r.stored } in
       decided (accepted r.doc) _ store (read_end file at line r.doc left h e ∙ rw (present-length r.doc.rows p.rows r.matches.rows_are, lt-ltb 0 p.rows there)) still k
 
-  pub out_of_lines : left ≤ 0 → FileIs (read_lines (length file) file start 2 no_lines) store₀ (FileRead.Refused (refusal NotALine line)) store
+  pub out_of_lines : left ≤ 0 → FileIs (read_lines (length file) file start 2 no_lines) store₀ (Err (refusal NotALine line)) store
   out_of_lines h = decided _ _ store (read_out file at line r.doc left h) still refl
 
   module _ (more : 0 < left) (inside : at ≢ length file) (answer : LineRead) (left' : Bytes) (h : LineIs (read_line file at) p store answer left') where
@@ -133,29 +135,29 @@ module _ (file : Bytes) (start : ℕ) (store₀ store : Bytes) (at line : ℕ) (
     answers o e = subst (λ (o : Option (Line × ℕ)). AnswerIs r.doc o answer left') e (h.answers r.doc r.stored r.matches)
 
     -- the line is not kept
-    pub line_refused : (reason : Reason) → answer ≡ LineRead.Refused reason → FileIs (read_lines (length file) file start 2 no_lines) store₀ (FileRead.Refused (line_refusal answer line)) left'
+    pub line_refused : (reason : Reason) → answer ≡ Err reason → FileIs (read_lines (length file) file start 2 no_lines) store₀ (Err (line_refusal answer line)) left'
     line_refused reason q = go (read_line file at) refl
       where
         fault : (l : Line) (next : ℕ) → read_line file at ≡ some (l, next) → (f : Option Reason) → line_fault r.doc l ≡ f → FaultIs r.doc l next f answer left'
-            → FileIs (read_lines (length file) file start 2 no_lines) store₀ (FileRead.Refused (line_refusal answer line)) left'
+            → FileIs (read_lines (length file) file start 2 no_lines) store₀ (Err (line_refusal answer line)) left'
         fault l next o none f k = let z : ◌≡◌ {A = ℕ} 0 1 = let a = k.answer_is in cc in absurd (omega arith)
-        fault l next o (some x) f k = decided _ _ left' (read_faulty file at line r.doc left l next x more inside o f) h.past (ap (λ (a : LineRead). FileRead.Refused (line_refusal a line)) k)
+        fault l next o (some x) f k = decided _ _ left' (read_faulty file at line r.doc left l next x more inside o f) h.past (ap (λ (a : LineRead). Err (line_refusal a line)) k)
 
-        go : (o : Option (Line × ℕ)) → read_line file at ≡ o → FileIs (read_lines (length file) file start 2 no_lines) store₀ (FileRead.Refused (line_refusal answer line)) left'
-        go none o = decided _ _ left' (read_missing file at line r.doc left more inside o) h.past (ap (λ (a : LineRead). FileRead.Refused (line_refusal a line)) (answers none o))
+        go : (o : Option (Line × ℕ)) → read_line file at ≡ o → FileIs (read_lines (length file) file start 2 no_lines) store₀ (Err (line_refusal answer line)) left'
+        go none o = decided _ _ left' (read_missing file at line r.doc left more inside o) h.past (ap (λ (a : LineRead). Err (line_refusal a line)) (answers none o))
         go (some (l, next)) o = fault l next o (line_fault r.doc l) refl (answers (some (l, next)) o)
 
     -- the line is kept
-    pub line_taken : (q : Progress) (next : ℕ) → answer ≡ LineRead.Kept q next → Reading file start store₀ left' next (line + 1) q (left - 1)
+    pub line_taken : (q : Progress) (next : ℕ) → answer ≡ Ok (q, next) → Reading file start store₀ left' next (line + 1) q (left - 1)
     line_taken q next e = go (read_line file at) refl
       where
         taken : (l : Line) (m : ℕ) → read_line file at ≡ some (l, m) → (f : Option Reason) → line_fault r.doc l ≡ f → FaultIs r.doc l m f answer left'
             → Reading file start store₀ left' next (line + 1) q (left - 1)
         taken l m o (some x) f k = let z : ◌≡◌ {A = ℕ} 0 1 = cc in absurd (omega arith)
         taken l m o none f k =
-            let a = k.answer_is in
-            let same-progress : k.progress ≡ q = cc in
-            let same_next : m ≡ next = cc in
+            let same = kept_same (k.progress, m) (q, next) (sym k.answer_is ∙ e) in
+            let same-progress : k.progress ≡ q = ap (λ (x : Progress × ℕ). x.0) same in
+            let same_next : m ≡ next = ap (λ (x : Progress × ℕ). x.1) same in
             record {
               doc = add r.doc l;
               past = past_trans r.past h.past;
@@ -178,11 +180,11 @@ line_fits line left n e h = omega arith
 
 -- ---- the first line
 
-pub no_header : (s store : Bytes) → expect header s 0 ≡ none → FileIs (read_file s) store (FileRead.Refused (refusal NotALine 1)) store
+pub no_header : (s store : Bytes) → expect header s 0 ≡ none → FileIs (read_file s) store (Err (refusal NotALine 1)) store
 unfolding read_file
 no_header s store e = record {
   past = record { length_stays = refl; rest_stays = refl };
-  answers = subst (λ (y : Result Document). FileAnswer y (FileRead.Refused (refusal NotALine 1)) store) (sym (first e)) refl;
+  answers = subst (λ (y : Result Document). FileAnswer y (Err (refusal NotALine 1)) store) (sym (first e)) refl;
 }
   where
     first : expect header s 0 ≡ none → read_file s ≡ refused (refusal NotALine 1)

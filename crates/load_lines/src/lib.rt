@@ -9,31 +9,17 @@ ghost use Rattle.load_line.specs.Line.{Stored};
 ghost use Rattle.load_lines.specs.File.{FileIs, line_refusal};
 
 use format::{Reason, Refusal};
-use load_line::LineRead;
+use load_line::{LineRead, load_line};
 use progress::Progress;
-use read_text::Next;
 
 // What reading a whole file finds: what has been read, or the first line that fails and why.
-#[derive(Drop)]
-pub enum FileRead {
-    Accepted(Progress),
-    Refused(Refusal),
-}
+pub type FileRead = Result<Progress, Refusal>;
 
 // The refusal of a line that is not kept.
 fn line_refusal(answer: LineRead, line: usize) -> Refusal
     ensures { result ≡ line_refusal answer line }
 {
-    match answer {
-        LineRead::Kept(_, _) => Refusal {
-            reason: Reason::NotALine,
-            line: line,
-        },
-        LineRead::Refused(reason) => Refusal {
-            reason: reason,
-            line: line,
-        },
-    }
+    answer.err().unwrap_or(Reason::NotALine).at(line)
 }
 
 // Reads the lines of a file from the second on into a store whose bytes are 0.
@@ -44,7 +30,6 @@ fn load_rest(file: &[u8], start: usize, store: &mut [u8]) -> FileRead
     ensures { FileIs (read_lines (length file.now) file.now start 2 no_lines) store.old result store.new }
 {
     let mut at = start;
-    let mut line = 2;
     let mut p = Progress {
         rows: 0,
         flows: 0,
@@ -54,30 +39,22 @@ fn load_rest(file: &[u8], start: usize, store: &mut [u8]) -> FileRead
         comm_least: 0,
         claim_least: 0,
     };
-    let mut left = file.len();
-    while 0 < left {
+    let end = file.len() + 2;
+    for line in 2..end {
         if at == file.len() {
             if p.rows == 0 {
-                return FileRead::Refused(Refusal {
-                    reason: Reason::OutOfCount,
-                    line: line,
-                });
+                return Err(Reason::OutOfCount.at(line));
             }
-            return FileRead::Accepted(p);
+            return Ok(p);
         }
-        let answer = load_line::load_line(file, at, store, p);
-        let LineRead::Kept(q, next) = answer else {
-            return FileRead::Refused(line_refusal(answer, line));
+        let answer = load_line(file, at, store, p);
+        let Ok((q, next)) = answer else {
+            return Err(line_refusal(answer, line));
         };
         p = q;
         at = next;
-        line += 1;
-        left -= 1;
     }
-    FileRead::Refused(Refusal {
-        reason: Reason::NotALine,
-        line: line,
-    })
+    Err(Reason::NotALine.at(end))
 }
 
 // Reads a file into a store whose bytes are 0.
@@ -88,11 +65,8 @@ pub fn load_lines(file: &[u8], store: &mut [u8]) -> FileRead
     requires file_len_bound { length file.now ≤ byte_limit }
     ensures { FileIs (read_file file.now) store.old result store.new }
 {
-    let Next::At(start) = read_text::expect(file, 0, b"[dispenser 1]\n") else {
-        return FileRead::Refused(Refusal {
-            reason: Reason::NotALine,
-            line: 1,
-        });
+    let Some(start) = read_text::expect(file, 0, b"[dispenser 1]\n") else {
+        return Err(Reason::NotALine.at(1));
     };
     load_rest(file, start, store)
 }

@@ -75,8 +75,8 @@ fault_is d l a b c e p q r t = rw (p, q, r, t)
 -- the members of a set, whether a row is above the limit and whether they rise, and the set's own fault
 same_fault : (a low c fall : Bool) (below rise : Bool)
     → first_of a (low || not below) c (fall || not rise)
-    ≡ first_of a (low || is_above_limit (pick below (pick rise set.Nothing set.NotRising) set.AboveLimit)) c
-    (fall || is_not_rising (pick below (pick rise set.Nothing set.NotRising) set.AboveLimit))
+    ≡ first_of a (low || is_above_limit (pick below (pick rise none (some set.NotRising)) (some set.AboveLimit))) c
+    (fall || is_not_rising (pick below (pick rise none (some set.NotRising)) (some set.AboveLimit)))
 same_fault a low c fall true true = refl
 same_fault a low c fall true false = refl
 same_fault a true c fall false rise = refl
@@ -150,7 +150,7 @@ row_fits p n above h =
     let (l, r) = or_neither (leb row_limit n) above b in
     (leb-false row_limit n l, r, eqb-true n p.rows (not-false (eqb n p.rows) c))
 
-pub set_fits : (t : Table) (p : Progress) (n : ℕ) (f : SetFault) → set_line_fault t p n f ≡ none → (n < row_limit) × (least_of t p ≤ n)
+pub set_fits : (t : Table) (p : Progress) (n : ℕ) (f : Option SetFault) → set_line_fault t p n f ≡ none → (n < row_limit) × (least_of t p ≤ n)
 unfolding set_line_fault
 set_fits Flow p n f h =
     let (a, b, c, e) = faultless (ltb 0 (p.comms + p.claims)) (leb row_limit n || is_above_limit f) (eqb p.rows 0) (ltb n p.flow_least || is_not_rising f) h in

@@ -1,6 +1,6 @@
 -- A line told from the progress before it: why it is refused, and the progress with it.
 use Rattle.std.specs.Prelude.{ℕ, ◌+◌, Bool, not, ◌||◌, List, ltb, leb, eqb}
-use Rattle.std.specs.Prelude.{Option, None as none, Some as some}
+use Rattle.std.specs.Prelude.{Option, None as none, Some as some, Result, Ok, Err}
 use Rattle.program.specs.Test.{pick}
 use Rattle.format.specs.declared.Reason.{Reason}
 use Rattle.format.specs.declared.Reason.TheVariants as reason
@@ -14,8 +14,6 @@ use Rattle.read_sets.specs.Sets.{is_above_limit, is_not_rising}
 use Rattle.progress.specs.declared.Progress.{Progress}
 use Rattle.progress.specs.declared.Table.{Table}
 use Rattle.progress.specs.declared.Table.TheVariants.{Flow, Comm}
-use Rattle.progress.specs.declared.LineFault.{LineFault}
-use Rattle.progress.specs.declared.LineFault.TheVariants as fault
 
 -- ---- the two tables of sets
 
@@ -95,9 +93,9 @@ with_claim least p = record {
 
 -- ---- why a line is refused: 2 before 3 before 4 before 5
 
-abbrev pub fault_read : LineFault → Option Reason
-fault_read fault.Nothing = none
-fault_read (fault.Refused reason) = some reason
+abbrev pub fault_read : Result (Unit {0}) Reason → Option Reason
+fault_read (Ok u) = none
+fault_read (Err reason) = some reason
 
 -- a row, where `above` says whether one of its own numbers is above the limit
 unfoldable pub row_line_fault : Progress → ℕ → Bool → Option Reason
@@ -107,7 +105,7 @@ row_line_fault p n above =
     (pick (not (eqb n p.rows)) (some reason.OutOfCount) none))
 
 -- a set with key n, which has a fault of its own or none
-unfoldable pub set_line_fault : Table → Progress → ℕ → SetFault → Option Reason
+unfoldable pub set_line_fault : Table → Progress → ℕ → Option SetFault → Option Reason
 set_line_fault t p n fault =
     pick (ltb 0 (behind t p)) (some reason.NotALine)
     (pick (leb row_limit n || is_above_limit fault) (some reason.AboveLimit)

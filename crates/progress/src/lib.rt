@@ -10,7 +10,7 @@ use read_sets::SetFault;
 use store::Store;
 
 // What has been read: the counts of lines, and the least number that rises in each section.
-#[derive(Clone, Copy)]
+#[derive(Clone, Copy, PartialEq, Eq)]
 pub struct Progress {
     pub rows: usize,
     pub flows: usize,
@@ -22,7 +22,7 @@ pub struct Progress {
 }
 
 // The two tables of sets.
-#[derive(Clone, Copy)]
+#[derive(Clone, Copy, PartialEq, Eq)]
 pub enum Table {
     Flow,
     Comm,
@@ -101,75 +101,68 @@ impl Progress {
     }
 }
 
-// What is wrong with a line.
-#[derive(Drop)]
-pub enum LineFault {
-    Nothing,
-    Refused(Reason),
-}
-
 // The fault of the line of row n, of whose numbers one may be above the limit.
 #[tactic(auto, unfolding(crate::specs::Lines::row_line_fault))]
-pub fn row_fault(p: Progress, n: usize, above: bool) -> LineFault
+pub fn row_fault(p: Progress, n: usize, above: bool) -> Result<(), Reason>
     requires { Small p }
     ensures { fault_read result ≡ row_line_fault p n above }
 {
     let later = p.flows + p.comms + p.claims;
     if 0 < later {
-        return LineFault::Refused(Reason::NotALine);
+        return Err(Reason::NotALine);
     }
     if Store::ROWS <= n {
-        return LineFault::Refused(Reason::AboveLimit);
+        return Err(Reason::AboveLimit);
     }
     if above {
-        return LineFault::Refused(Reason::AboveLimit);
+        return Err(Reason::AboveLimit);
     }
     if n != p.rows {
-        return LineFault::Refused(Reason::OutOfCount);
+        return Err(Reason::OutOfCount);
     }
-    LineFault::Nothing
+    Ok(())
 }
 
 // The fault of the line of a set with key n, which has a fault of its own or none.
 #[tactic(auto, unfolding(crate::specs::Lines::set_line_fault))]
-pub fn set_fault(p: Progress, table: Table, n: usize, fault: SetFault) -> LineFault
+pub fn set_fault(p: Progress, table: Table, n: usize, fault: Option<SetFault>) -> Result<(), Reason>
     requires { Small p }
     ensures { fault_read result ≡ set_line_fault table p n fault }
 {
     if 0 < p.behind(table) {
-        return LineFault::Refused(Reason::NotALine);
+        return Err(Reason::NotALine);
     }
     if Store::NAMES <= n {
-        return LineFault::Refused(Reason::AboveLimit);
+        return Err(Reason::AboveLimit);
     }
-    if fault.is_above_limit() {
-        return LineFault::Refused(Reason::AboveLimit);
+    if matches!(fault, Some(SetFault::AboveLimit)) {
+        return Err(Reason::AboveLimit);
     }
     if p.rows == 0 {
-        return LineFault::Refused(Reason::OutOfCount);
+        return Err(Reason::OutOfCount);
     }
     if n < p.least(table) {
-        return LineFault::Refused(Reason::NotRising);
+        return Err(Reason::NotRising);
     }
-    if fault.is_not_rising() {
-        return LineFault::Refused(Reason::NotRising);
+    if matches!(fault, Some(SetFault::NotRising)) {
+        return Err(Reason::NotRising);
     }
-    LineFault::Nothing
+    Ok(())
 }
 
 // The fault of the line of the claim on row n.
 #[tactic(auto, unfolding(crate::specs::Lines::claim_line_fault))]
-pub fn claim_fault(p: Progress, n: usize) -> LineFault
+pub fn claim_fault(p: Progress, n: usize) -> Result<(), Reason>
     ensures { fault_read result ≡ claim_line_fault p n }
 {
     if Store::ROWS <= n {
-        return LineFault::Refused(Reason::AboveLimit);
+        return Err(Reason::AboveLimit);
     }
     if p.rows == 0 {
-        return LineFault::Refused(Reason::OutOfCount);
+        return Err(Reason::OutOfCount);
     }
     if n < p.claim_least {
-        return LineFault::Refused(Reason::NotRising);
+        return Err(Reason::NotRising);
     }
-    LineFault::Nothing
+    Ok(())
 }

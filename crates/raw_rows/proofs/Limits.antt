@@ -7,11 +7,12 @@ use native.Mathlib.Omega.{arith}
 use native.Mathlib.Nat.{mod-eq_of_lt}
 use native.Mathlib.Numerals.{add-one}
 use native.Mathlib.Decide.{ℕ_discrete}
-use lib.ListN.{length, take, get_or}
-use lib.Seq.{take_all}
+use lib.ListN.{length, take, drop, get_or, drop_of_length-le}
+use lib.Seq.{drop-cons}
 use lib.Dec.{ltb, eqb}
-use borrow.Author.Tests.{lt-ltb, le-ltb, ltb-true, ne_eqb}
+use borrow.Author.Tests.{ltb-true, ne_eqb, not-true, not-false}
 use Rattle.program.specs.declared.Row.{Row}
+use Rattle.program.specs.declared.Form.{Form}
 use Rattle.program.specs.Test.{pick}
 use Rattle.program.specs.Each.{every}
 use Rattle.program.proofs.Test.{and_left, and_right}
@@ -19,8 +20,7 @@ use Rattle.format.specs.Limits.{row_limit}
 use Rattle.format.specs.Forms.{arity, form_with, form_of}
 use Rattle.format.specs.Print.{form_numbers}
 use Rattle.format.specs.Read.{row_numbers}
-use Rattle.raw_rows.specs.declared.RawRow.{RawRow}
-use Rattle.raw_rows.specs.Raw.{raw_row, numbers_above, row_above}
+use Rattle.raw_rows.specs.Raw.{numbers_above, row_above}
 
 -- a form's numbers are the first of five, as many as its code has
 record Arity (a b c d e k : ℕ) : Type 0 where
@@ -59,64 +59,12 @@ every_append f (x ∷ xs) ys = go (f x) (every_append f xs ys)
     go true h = h
     go false h = refl
 
-not_one : (p : Bool) → not (p && true) ≡ pick p false true
-not_one true = refl
-not_one false = refl
-
-not_all : (p q r : Bool) → not (p && (q && (r && true))) ≡ pick p (pick r (not q) true) true
+not_all : (p q r : Bool) → not (p && (q && (r && true))) ≡ pick (not p) true (pick (not r) true (not q))
 not_all true true true = refl
 not_all true true false = refl
 not_all true false true = refl
 not_all true false false = refl
 not_all false q r = refl
-
--- the first numbers of a list, one more, or one above the limit among them
-every_next : (f : ℕ → Bool) (ns : List ℕ) (i : ℕ) → i < length ns → every f (take i ns) ≡ true → f (get_or ns i 0) ≡ true → every f (take (suc i) ns) ≡ true
-unfolding every
-every_next f [] i l h k = absurd (omega arith)
-every_next f (n ∷ ns) zero l h k = rw k
-every_next f (n ∷ ns) (suc i) l h k =
-    rw (and_left (f n) (every f (take i ns)) h) (every_next f ns i (omega arith) (and_right (f n) (every f (take i ns)) h) k)
-
-every_fails : (f : ℕ → Bool) (ns : List ℕ) (i count : ℕ) → i < count → i < length ns → f (get_or ns i 0) ≡ false → every f (take count ns) ≡ false
-unfolding every
-every_fails f [] i count l h k = absurd (omega arith)
-every_fails f (n ∷ ns) i zero l h k = absurd (omega arith)
-every_fails f (n ∷ ns) zero (suc c) l h k = rw k
-every_fails f (n ∷ ns) (suc i) (suc c) l h k = rw (every_fails f ns i c (omega arith) (omega arith) k) (and-false (f n))
-
--- the first i numbers have been tested, and none is above the limit
-module _ (ns : List ℕ) (i count : ℕ) where
-  module _ (tested : every (λ n. ltb n row_limit) (take i ns) ≡ true) where
-    pub tested_one : i < length ns → get_or ns i 0 < row_limit → every (λ n. ltb n row_limit) (take (i + 1) ns) ≡ true
-    tested_one l h = rw (add-one i) (every_next (λ n. ltb n row_limit) ns i l tested (lt-ltb (get_or ns i 0) row_limit h))
-
-    pub tested_count : i ≤ count → count ≤ i → false ≡ numbers_above (take count ns)
-    tested_count l h = let e : count ≡ i = omega arith in rw (e, tested)
-
-    pub tested_all : i ≤ count → length ns ≤ i → false ≡ numbers_above (take count ns)
-    tested_all l h = rw (take_all count ns (omega arith)) (rw (rw (take_all i ns h) at tested))
-
-  pub tested_above : i < count → i < length ns → row_limit ≤ get_or ns i 0 → true ≡ numbers_above (take count ns)
-  tested_above c l h = rw (every_fails (λ n. ltb n row_limit) ns i count c l (le-ltb (get_or ns i 0) row_limit h))
-
--- the numbers of the form of a row
-abbrev numbers : RawRow → List ℕ
-numbers x = take (arity x.kind) (x.a ∷ x.b ∷ x.c ∷ x.d ∷ x.e ∷ [])
-
-bind_numbers : (x : RawRow) → (x.kind ≡ 1 → ⊥) → row_numbers (raw_row x) ≡ x.name ∷ (numbers x ++ (x.rest ∷ []))
-unfolding raw_row row_numbers
-bind_numbers x k = rw (ne_eqb x.kind 1 k, (arity_is x.a x.b x.c x.d x.e x.kind).numbers)
-
-pub above_row : (x : RawRow)
-    → row_above (raw_row x) ≡ pick (ltb x.name row_limit) (pick (eqb x.kind 1) false (pick (ltb x.rest row_limit) (numbers_above (numbers x)) true)) true
-unfolding raw_row row_numbers every
-above_row x = elim (ℕ_discrete x.kind 1) [
-  | yes q ↦ rw q (not_one (ltb x.name row_limit))
-  | no q ↦ ap numbers_above (bind_numbers x q)
-      ∙ rw (ne_eqb x.kind 1 q, every_append (λ n. ltb n row_limit) (numbers x) (x.rest ∷ []))
-      (not_all (ltb x.name row_limit) (every (λ n. ltb n row_limit) (numbers x)) (ltb x.rest row_limit))
-]
 
 -- ---- a byte holds each number that is not above the limit
 
@@ -129,32 +77,80 @@ lows_same zero ns h = refl
 lows_same (suc j) [] h = refl
 lows_same (suc j) (n ∷ ns) h = rw (low_same n (search and_left), lows_same j ns (search and_right))
 
--- the tests of a bind, which all pass
-bind_below : (x : RawRow) → (x.kind ≡ 1 → ⊥) → row_above (raw_row x) ≡ false → So (ltb x.name row_limit) × So (every (λ n. ltb n row_limit) (numbers x)) × So (ltb x.rest row_limit)
-bind_below x k h =
-    go (ltb x.name row_limit) (every (λ n. ltb n row_limit) (numbers x)) (ltb x.rest row_limit) (rw (above_row x, ne_eqb x.kind 1 k) at h)
-  where
-    go : (p q r : Bool) → pick p (pick r (not q) true) true ≡ false → So p × So q × So r
-    go true true true e = (refl, refl, refl)
-    go true false true e = absurd (false≢true (sym e))
-    go true q false e = absurd (false≢true (sym e))
-    go false q r e = absurd (false≢true (sym e))
+-- the tests of the numbers from i on
+module _ (ns : List ℕ) (i : ℕ) where
+  pub from_above : i < length ns → not (ltb (get_or ns i 0) row_limit) ≡ true → true ≡ numbers_above (drop i ns)
+  unfolding every
+  from_above l h = rw (drop-cons ns i 0 l, not-true (ltb (get_or ns i 0) row_limit) h)
 
-pub low_result : (x : RawRow) → x.kind ≡ 1 → row_above (raw_row x) ≡ false → Row.Result (x.name % 256) ≡ raw_row x
-unfolding raw_row
-low_result x k h = rw k (ap Row.Result (low_same x.name (go (ltb x.name row_limit) (rw (above_row x, k) at h))))
+  pub from_next : i < length ns → not (ltb (get_or ns i 0) row_limit) ≡ false → numbers_above (drop (i + 1) ns) ≡ numbers_above (drop i ns)
+  unfolding every
+  from_next l h = rw (drop-cons ns i 0 l, add-one i, not-false (ltb (get_or ns i 0) row_limit) h)
+
+  pub from_end : length ns ≤ i → false ≡ numbers_above (drop i ns)
+  unfolding every
+  from_end l = rw (drop_of_length-le ns l)
+
+-- five numbers, one by one
+abbrev one_by_one : List ℕ → List ℕ
+one_by_one ns = get_or ns 0 0 ∷ get_or ns 1 0 ∷ get_or ns 2 0 ∷ get_or ns 3 0 ∷ get_or ns 4 0 ∷ []
+
+five : (ns : List ℕ) → length ns ≡ 5 → one_by_one ns ≡ ns
+five [] h = absurd (omega (arith, h))
+five (a ∷ []) h = absurd (omega (arith, h))
+five (a ∷ b ∷ []) h = absurd (omega (arith, h))
+five (a ∷ b ∷ c ∷ []) h = absurd (omega (arith, h))
+five (a ∷ b ∷ c ∷ d ∷ []) h = absurd (omega (arith, h))
+five (a ∷ b ∷ c ∷ d ∷ e ∷ []) h = refl
+five (a ∷ b ∷ c ∷ d ∷ e ∷ f ∷ ns) h = absurd (omega (arith, h))
+
+-- a form as read, of which the numbers are five
+module _ (k : ℕ) (ns : List ℕ) (long : length ns ≡ 5) where
+  pub numbers_are : form_numbers (form_of k ns) ≡ take (arity k) ns
+  unfolding form_of
+  numbers_are = (arity_is (get_or ns 0 0) (get_or ns 1 0) (get_or ns 2 0) (get_or ns 3 0) (get_or ns 4 0) k).numbers ∙ ap (take (arity k)) (five ns long)
+
+  pub low_form : numbers_above (form_numbers (form_of k ns)) ≡ false
+      → form_with k (get_or ns 0 0 % 256) (get_or ns 1 0 % 256) (get_or ns 2 0 % 256) (get_or ns 3 0 % 256) (get_or ns 4 0 % 256) ≡ form_of k ns
+  unfolding form_of
+  low_form h =
+      let all_small : So (every (λ n. ltb n row_limit) (take (arity k) (one_by_one ns))) = rw (five ns long) (not-false (every (λ n. ltb n row_limit) (take (arity k) ns)) (rw numbers_are at h)) in
+      (arity_is (get_or ns 0 0 % 256) (get_or ns 1 0 % 256) (get_or ns 2 0 % 256) (get_or ns 3 0 % 256) (get_or ns 4 0 % 256) k).form
+      ∙ ap (form_of k) (lows_same (arity k) (one_by_one ns) all_small)
+      ∙ sym (arity_is (get_or ns 0 0) (get_or ns 1 0) (get_or ns 2 0) (get_or ns 3 0) (get_or ns 4 0) k).form
+
+module _ (name rest : ℕ) (f : Form) where
+  pub above_bind : row_above (Row.Bind (record { name = name; form = f; rest = rest }))
+      ≡ pick (not (ltb name row_limit)) true (pick (not (ltb rest row_limit)) true (numbers_above (form_numbers f)))
+  unfolding row_numbers every
+  above_bind = rw (every_append (λ n. ltb n row_limit) (form_numbers f) (rest ∷ [])) (not_all (ltb name row_limit) (every (λ n. ltb n row_limit) (form_numbers f)) (ltb rest row_limit))
+
+  pub record BindBelow : Type 0 where
+    pub name_below : name % 256 ≡ name
+    pub form_below : numbers_above (form_numbers f) ≡ false
+    pub rest_below : rest % 256 ≡ rest
+
+  -- the tests of a bind, which all pass
+  pub bind_below : row_above (Row.Bind (record { name = name; form = f; rest = rest })) ≡ false → BindBelow
+  bind_below h = go (ltb name row_limit) (numbers_above (form_numbers f)) (ltb rest row_limit) refl refl refl (rw above_bind at h)
+    where
+      go : (p q r : Bool) → ltb name row_limit ≡ p → numbers_above (form_numbers f) ≡ q → ltb rest row_limit ≡ r → pick (not p) true (pick (not r) true q) ≡ false → BindBelow
+      go true false true a b c e = record { name_below = low_same name a; form_below = b; rest_below = low_same rest c }
+      go true true true a b c e = absurd (false≢true (sym e))
+      go true q false a b c e = absurd (false≢true (sym e))
+      go false q r a b c e = absurd (false≢true (sym e))
+
+pub above_result : (n : ℕ) → row_above (Row.Result n) ≡ not (ltb n row_limit)
+unfolding row_numbers every
+above_result n = go (ltb n row_limit)
   where
-    go : (p : Bool) → pick p false true ≡ false → So p
+    go : (p : Bool) → not (p && true) ≡ not p
+    go true = refl
+    go false = refl
+
+pub low_result : (n : ℕ) → row_above (Row.Result n) ≡ false → Row.Result (n % 256) ≡ Row.Result n
+low_result n h = ap Row.Result (low_same n (go (ltb n row_limit) (rw (above_result n) at h)))
+  where
+    go : (p : Bool) → not p ≡ false → So p
     go true e = refl
     go false e = sym e
-
-pub low_bind : (x : RawRow) → (x.kind ≡ 1 → ⊥) → row_above (raw_row x) ≡ false
-    → Row.Bind (record { name = x.name % 256; form = form_with x.kind (x.a % 256) (x.b % 256) (x.c % 256) (x.d % 256) (x.e % 256); rest = x.rest % 256 }) ≡ raw_row x
-unfolding raw_row
-low_bind x k h =
-    let (n, ns, r) = bind_below x k h in
-    let e : form_with x.kind (x.a % 256) (x.b % 256) (x.c % 256) (x.d % 256) (x.e % 256) ≡ form_with x.kind x.a x.b x.c x.d x.e =
-    (arity_is (x.a % 256) (x.b % 256) (x.c % 256) (x.d % 256) (x.e % 256) x.kind).form
-    ∙ ap (form_of x.kind) (lows_same (arity x.kind) (x.a ∷ x.b ∷ x.c ∷ x.d ∷ x.e ∷ []) ns)
-    ∙ sym (arity_is x.a x.b x.c x.d x.e x.kind).form in
-    rw (ne_eqb x.kind 1 k, low_same x.name n, low_same x.rest r, e)

@@ -1,19 +1,17 @@
 -- Rows as read, in the terms of the format's definitions.
-use Rattle.std.specs.Prelude.{ℕ, Bool, not, List, ltb, eqb}
+use Rattle.std.specs.Prelude.{ℕ, Bool, not, List, ltb}
 use Rattle.program.specs.declared.Row.{Row}
 use Rattle.program.specs.declared.Bind.{Bind}
-use Rattle.program.specs.Test.{pick}
 use Rattle.program.specs.Each.{every}
 use Rattle.format.specs.Limits.{row_limit}
-use Rattle.format.specs.Forms.{form_with}
 use Rattle.format.specs.Read.{row_numbers}
+use Rattle.read_forms.specs.Reads.{raw_form}
 use Rattle.raw_rows.specs.declared.RawRow.{RawRow}
 
 -- the row of a row as read
 unfoldable pub raw_row : RawRow → Row
-raw_row x =
-    pick (eqb x.kind 1) (Row.Result x.name)
-    (Row.Bind (record { name = x.name; form = form_with x.kind x.a x.b x.c x.d x.e; rest = x.rest }))
+raw_row (RawRow.Result n) = Row.Result n
+raw_row (RawRow.Bind n f t) = Row.Bind (record { name = n; form = raw_form f; rest = t })
 
 -- 3: "A number above 159"
 abbrev pub numbers_above : List ℕ → Bool

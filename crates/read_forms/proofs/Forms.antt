@@ -1,11 +1,13 @@
--- The numbers of a form, read one after the other: a first number, and the others.
-use Prim.Native.Nat.{ℕ, zero, suc, ◌-◌}
+-- The numbers of a form, read one after the other into five places.
+use Prim.Native.Nat.{ℕ, zero, suc, ◌+◌, ◌-◌, ◌≤◌, ◌<◌}
 use mathlib.Core.Bool.{false, not, So}
-use mathlib.Core.List.{List, ◌∷◌}
+use mathlib.Core.List.{List, [], ◌∷◌}
 use Rattle.std.specs.Prelude.{Option, None as none, Some as some}
 use mathlib.Core.Path.{◌≡◌, refl}
 use native.Mathlib.Omega.{arith}
 use lib.Dec.{eqb}
+use lib.ListN.{length, set}
+use Rattle.std.proofs.lemmas.List.{set_past}
 use borrow.Author.Tests.{not-true}
 use Rattle.program.specs.Maybe.{◌>>=◌}
 use Rattle.program.specs.declared.Form.{Form}
@@ -13,54 +15,83 @@ use Rattle.program.specs.Each.{every}
 use Rattle.program.proofs.Each.{each_imp, every_elim}
 use Rattle.program.proofs.Maybe.{found_at}
 use Rattle.format.specs.Text.{Bytes, ascii, expect, one_of, read_argument, read_arguments}
-use Rattle.format.specs.Forms.{arity, form_with, form_of}
+use Rattle.format.specs.Forms.{arity, form_of}
 use Rattle.format.specs.Read.{form_words, read_form}
 use Rattle.format.proofs.Stands.{nonzero, one_of_found}
-use Rattle.read_forms.specs.declared.Numbers.{Numbers}
 use Rattle.read_forms.specs.Reads.{numbers_of, read_numbers}
 
--- what is made of numbers that have been read: the first five; a number before others, as a list and as five
-abbrev kept : List ℕ × ℕ → Option (Numbers × ℕ)
-kept (ns, p) = some (numbers_of ns, p)
+-- numbers put into places from i on; past the end nothing is put
+unfoldable pub filled : ℕ → List ℕ → List ℕ → List ℕ
+filled i places [] = places
+filled i places (n ∷ ns) = filled (i + 1) (set places i n) ns
+
+filled_past : (i : ℕ) (places ns : List ℕ) → length places ≤ i → filled i places ns ≡ places
+unfolding filled
+filled_past i places [] h = refl
+filled_past i places (n ∷ ns) h = rw (set_past places i n h) (filled_past (i + 1) places ns (omega arith))
+
+-- from zeros on, the first five numbers are put
+filled_five : (ns : List ℕ) → filled 0 (0 ∷ 0 ∷ 0 ∷ 0 ∷ 0 ∷ []) ns ≡ numbers_of ns
+unfolding filled numbers_of
+filled_five [] = refl
+filled_five (a ∷ []) = refl
+filled_five (a ∷ b ∷ []) = refl
+filled_five (a ∷ b ∷ c ∷ []) = refl
+filled_five (a ∷ b ∷ c ∷ d ∷ []) = refl
+filled_five (a ∷ b ∷ c ∷ d ∷ e ∷ ns) = filled_past 5 (a ∷ b ∷ c ∷ d ∷ e ∷ []) ns (omega arith)
+
+-- what is made of numbers that have been read: put into places, the first five, and behind another
+abbrev put : ℕ → List ℕ → List ℕ × ℕ → Option (List ℕ × ℕ)
+put i places (ns, q) = some (filled i places ns, q)
+
+abbrev kept : List ℕ × ℕ → Option (List ℕ × ℕ)
+kept (ns, q) = some (numbers_of ns, q)
 
 abbrev longer : ℕ → List ℕ × ℕ → Option (List ℕ × ℕ)
-longer n (ns, p) = some (n ∷ ns, p)
-
-abbrev pub before : ℕ → Numbers × ℕ → Option (Numbers × ℕ)
-before n (more, p) = some (record { a = n; b = more.a; c = more.b; d = more.c; e = more.d }, p)
+longer n (ns, q) = some (n ∷ ns, q)
 
 module _ (s : Bytes) where
-  pub none_read : (at : ℕ) → read_numbers 0 s at ≡ some (record { a = 0; b = 0; c = 0; d = 0; e = 0 }, at)
-  unfolding read_numbers read_arguments numbers_of ◌>>=◌
-  none_read at = refl
+  -- k numbers from a position on, put into places from i on
+  abbrev pub more : ℕ → ℕ → List ℕ → ℕ → Option (List ℕ × ℕ)
+  more k i places at = read_arguments k s at >>= put i places
 
-  pub next_read_lem : (k at : ℕ) → (k ≡ 0 → ⊥) → read_numbers k s at ≡ (read_argument s at >>= λ (n, p). read_numbers (k - 1) s p >>= before n)
-  unfolding read_numbers read_arguments numbers_of ◌>>=◌
-  next_read_lem zero at h = absurd (h refl)
-  next_read_lem (suc k) at h = let e : suc k - 1 ≡ k = omega arith in rw e (go (read_argument s at))
+  pub more_zeros : (k at : ℕ) → more (k - 0) 0 (0 ∷ 0 ∷ 0 ∷ 0 ∷ 0 ∷ []) at ≡ read_numbers k s at
+  unfolding read_numbers ◌>>=◌
+  more_zeros k at = let e : k - 0 ≡ k = omega arith in rw e (go (read_arguments k s at))
     where
-      others : (n : ℕ) (o : Option (List ℕ × ℕ)) → (o >>= longer n >>= kept) ≡ (o >>= kept >>= before n)
-      others n none = refl
-      others n (some x) = refl
-
-      go : (o : Option (ℕ × ℕ)) → (o >>= (λ (n, p). read_arguments k s p >>= longer n) >>= kept) ≡ (o >>= λ (n, p). read_arguments k s p >>= kept >>= before n)
+      go : (o : Option (List ℕ × ℕ)) → (o >>= put 0 (0 ∷ 0 ∷ 0 ∷ 0 ∷ 0 ∷ [])) ≡ (o >>= kept)
       go none = refl
-      go (some x) = others x.0 (read_arguments k s x.1)
+      go (some (ns, q)) = rw (filled_five ns)
 
-  -- the form of a code and the numbers that have been read
-  abbrev pub formed : ℕ → Numbers → ℕ → Option (Form × ℕ)
-  formed k n q = expect (ascii "]") s q >>= λ e. some (form_with k n.a n.b n.c n.d n.e, e)
+  pub more_end : (k i at : ℕ) (places : List ℕ) → k ≤ i → more (k - i) i places at ≡ some (places, at)
+  unfolding read_arguments filled ◌>>=◌
+  more_end k i at places h = let e : k - i ≡ 0 = omega arith in rw e
 
-  pub form_read_lem : (at : ℕ) → read_form s at ≡ (one_of form_words s at >>= λ (k, p). read_numbers (arity k) s p >>= λ (n, q). formed k n q)
+  pub more_stop : (k i at : ℕ) (places : List ℕ) → i < k → none ≡ read_argument s at → more (k - i) i places at ≡ none
+  unfolding read_arguments ◌>>=◌
+  more_stop k i at places h e = let j : k - i ≡ suc (k - (i + 1)) = omega arith in rw (j, ← e)
+
+  pub more_next : (k i at n p : ℕ) (places : List ℕ) → i < k → some (n, p) ≡ read_argument s at → more (k - (i + 1)) (i + 1) (set places i n) p ≡ more (k - i) i places at
+  unfolding read_arguments filled ◌>>=◌
+  more_next k i at n p places h e = let j : k - i ≡ suc (k - (i + 1)) = omega arith in rw (j, ← e) (go (read_arguments (k - (i + 1)) s p))
+    where
+      go : (o : Option (List ℕ × ℕ)) → (o >>= put (i + 1) (set places i n)) ≡ (o >>= longer n >>= put i places)
+      go none = refl
+      go (some (ns, q)) = refl
+
+  -- the form of a code and of numbers that have been read
+  abbrev pub formed : ℕ → List ℕ × ℕ → Option (Form × ℕ)
+  formed k (ns, q) = expect (ascii "]") s q >>= λ e. some (form_of k ns, e)
+
+  pub form_read_lem : (at : ℕ) → read_form s at ≡ (one_of form_words s at >>= λ (k, p). read_numbers (arity k) s p >>= formed k)
   unfolding read_form read_numbers form_of numbers_of ◌>>=◌
   form_read_lem at = go (one_of form_words s at)
     where
-      numbers : (k : ℕ) (o : Option (List ℕ × ℕ)) → (o >>= λ (ns, q). expect (ascii "]") s q >>= λ e. some (form_of k ns, e)) ≡ (o >>= kept >>= λ (n, q). formed k n q)
+      numbers : (k : ℕ) (o : Option (List ℕ × ℕ)) → (o >>= formed k) ≡ (o >>= kept >>= formed k)
       numbers k none = refl
       numbers k (some x) = refl
 
-      go : (o : Option (ℕ × ℕ)) → (o >>= λ (k, p). read_arguments (arity k) s p >>= λ (ns, q). expect (ascii "]") s q >>= λ e. some (form_of k ns, e))
-          ≡ (o >>= λ (k, p). read_arguments (arity k) s p >>= kept >>= λ (n, q). formed k n q)
+      go : (o : Option (ℕ × ℕ)) → (o >>= λ (k, p). read_arguments (arity k) s p >>= formed k) ≡ (o >>= λ (k, p). read_arguments (arity k) s p >>= kept >>= formed k)
       go none = refl
       go (some (k, p)) = numbers k (read_arguments (arity k) s p)
 

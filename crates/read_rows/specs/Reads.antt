@@ -2,10 +2,9 @@
 use Rattle.std.specs.Prelude.{ℕ}
 use Rattle.std.specs.Prelude.{Option, None as none, Some as some}
 use Rattle.program.specs.declared.Row.{Row}
+use Rattle.raw_rows.specs.declared.RawRow.{RawRow}
 use Rattle.raw_rows.specs.Raw.{raw_row}
-use Rattle.read_rows.specs.declared.RowRead.{RowRead}
-use Rattle.read_rows.specs.declared.RowRead.TheVariants as row
 
-abbrev pub row_read : RowRead → Option (Row × ℕ)
-row_read (row.Found x past) = some (raw_row x, past)
-row_read row.Missing = none
+abbrev pub row_read : Option (RawRow × ℕ) → Option (Row × ℕ)
+row_read (some (x, past)) = some (raw_row x, past)
+row_read none = none

@@ -6,81 +6,37 @@ ghost use Rattle.format.specs.Read.{read_result, read_bind, read_row};
 ghost use Rattle.read_rows.specs.Reads.{row_read};
 
 use raw_rows::RawRow;
-use read_forms::FormRead;
-use read_numbers::NumberRead;
-use read_text::Next;
+use read_forms::read_form;
+use read_text::{expect, read_argument};
 
-// What reading a row finds: the row and the position past it, or no row.
-#[derive(Drop)]
-pub enum RowRead {
-    Found(RawRow, usize),
-    Missing,
-}
-
-// Reads the rest of a bind behind its name.
-fn read_bind(s: &[u8], at: usize, name: u16) -> RowRead
+// Reads the rest of a bind behind its name: the row and the position past it.
+fn read_bind(s: &[u8], at: usize, name: u16) -> Option<(RawRow, usize)>
     ensures { row_read result ≡ read_bind name s.now at }
 {
-    let Next::At(p) = read_text::expect(s, at, b" ") else {
-        return RowRead::Missing;
-    };
-    let FormRead::Found(kind, n, q) = read_forms::read_form(s, p) else {
-        return RowRead::Missing;
-    };
-    let NumberRead::Found(rest, t) = read_text::read_argument(s, q) else {
-        return RowRead::Missing;
-    };
-    let Next::At(next) = read_text::expect(s, t, b"]") else {
-        return RowRead::Missing;
-    };
-    let raw = RawRow {
-        kind,
-        name,
-        rest,
-        a: n.a,
-        b: n.b,
-        c: n.c,
-        d: n.d,
-        e: n.e,
-    };
-    RowRead::Found(raw, next)
+    let p = expect(s, at, b" ")?;
+    let (form, q) = read_form(s, p)?;
+    let (rest, t) = read_argument(s, q)?;
+    let next = expect(s, t, b"]")?;
+    Some((RawRow::Bind { name, form, rest }, next))
 }
 
-// Reads the rest of a result behind its name.
-fn read_result(s: &[u8], at: usize, name: u16) -> RowRead
+// Reads the rest of a result behind its name: the row and the position past it.
+fn read_result(s: &[u8], at: usize, name: u16) -> Option<(RawRow, usize)>
     ensures { row_read result ≡ read_result name s.now at }
 {
-    let Next::At(next) = read_text::expect(s, at, b"]") else {
-        return RowRead::Missing;
-    };
-    let raw = RawRow {
-        kind: 1,
-        name,
-        rest: 0,
-        a: 0,
-        b: 0,
-        c: 0,
-        d: 0,
-        e: 0,
-    };
-    RowRead::Found(raw, next)
+    let next = expect(s, at, b"]")?;
+    Some((RawRow::Result(name), next))
 }
 
-// Reads a row.
-pub fn read_row(s: &[u8], at: usize) -> RowRead
+// Reads a row, and the position past it.
+pub fn read_row(s: &[u8], at: usize) -> Option<(RawRow, usize)>
     ensures { row_read result ≡ read_row s.now at }
 {
-    if let Next::At(p) = read_text::expect(s, at, b"[result") {
-        let NumberRead::Found(name, q) = read_text::read_argument(s, p) else {
-            return RowRead::Missing;
-        };
+    if let Some(p) = expect(s, at, b"[result") {
+        let (name, q) = read_argument(s, p)?;
         return read_result(s, q, name);
     }
-    let Next::At(p) = read_text::expect(s, at, b"[bind") else {
-        return RowRead::Missing;
-    };
-    let NumberRead::Found(name, q) = read_text::read_argument(s, p) else {
-        return RowRead::Missing;
-    };
+    let p = expect(s, at, b"[bind")?;
+    let (name, q) = read_argument(s, p)?;
     read_bind(s, q, name)
 }

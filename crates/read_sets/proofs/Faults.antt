@@ -2,6 +2,7 @@
 use Prim.Native.Nat.{ℕ, zero, suc, ◌+◌, ◌<◌}
 use mathlib.Core.Bool.{Bool, true, false, not, ◌&&◌, So}
 use mathlib.Core.List.{List, [], ◌∷◌}
+use Rattle.std.specs.Prelude.{None as none, Some as some}
 use mathlib.Core.Path.{◌≡◌, refl, ◌∙◌}
 use native.Mathlib.Omega.{arith}
 use native.Mathlib.Decide.{dec_lt}
@@ -14,7 +15,7 @@ use Rattle.program.proofs.Test.{and_left, and_right, and_intro}
 use Rattle.format.specs.Limits.{row_limit}
 use Rattle.format.specs.Read.{set_rows, rising}
 use Rattle.calls.specs.Layout.{member_limit}
-use Rattle.read_sets.specs.declared.SetFault.TheVariants.{Nothing, AboveLimit, NotRising}
+use Rattle.read_sets.specs.declared.SetFault.TheVariants.{AboveLimit, NotRising}
 use Rattle.read_sets.specs.Sets.{set_fault, fault_after, fault_from}
 
 -- ---- 3
@@ -69,38 +70,38 @@ rises (m ∷ ms) = rw (le-leb 0 m (omega arith)) (rises_above m ms)
 
 -- ---- the fold
 
-from_above : (least : ℕ) (ms : List ℕ) → fault_from AboveLimit least ms ≡ AboveLimit
+from_above : (least : ℕ) (ms : List ℕ) → fault_from (some AboveLimit) least ms ≡ (some AboveLimit)
 unfolding fault_from fault_after
 from_above least [] = refl
 from_above least (m ∷ ms) = go (leb member_limit m) (leb least m) (from_above (m + 1) ms)
   where
-    go : (p q : Bool) → fault_from AboveLimit (m + 1) ms ≡ AboveLimit → fault_from (pick p AboveLimit (pick q AboveLimit AboveLimit)) (m + 1) ms ≡ AboveLimit
+    go : (p q : Bool) → fault_from (some AboveLimit) (m + 1) ms ≡ (some AboveLimit) → fault_from (pick p (some AboveLimit) (pick q (some AboveLimit) (some AboveLimit))) (m + 1) ms ≡ (some AboveLimit)
     go true q h = h
     go false true h = h
     go false false h = h
 
-from_falling : (least : ℕ) (ms : List ℕ) → fault_from NotRising least ms ≡ pick (below ms) NotRising AboveLimit
+from_falling : (least : ℕ) (ms : List ℕ) → fault_from (some NotRising) least ms ≡ pick (below ms) (some NotRising) (some AboveLimit)
 unfolding fault_from fault_after
 from_falling least [] = rw below_none
 from_falling least (m ∷ ms) = rw (below_next m ms) (go (leb member_limit m) (leb least m) (from_falling (m + 1) ms))
   where
-    go : (p q : Bool) → fault_from NotRising (m + 1) ms ≡ pick (below ms) NotRising AboveLimit
-        → fault_from (pick p AboveLimit (pick q NotRising NotRising)) (m + 1) ms ≡ pick (not p && below ms) NotRising AboveLimit
+    go : (p q : Bool) → fault_from (some NotRising) (m + 1) ms ≡ pick (below ms) (some NotRising) (some AboveLimit)
+        → fault_from (pick p (some AboveLimit) (pick q (some NotRising) (some NotRising))) (m + 1) ms ≡ pick (not p && below ms) (some NotRising) (some AboveLimit)
     go true q h = from_above (m + 1) ms
     go false true h = h
     go false false h = h
 
-from_nothing : (least : ℕ) (ms : List ℕ) → fault_from Nothing least ms ≡ pick (below ms) (pick (rises_from least ms) Nothing NotRising) AboveLimit
+from_nothing : (least : ℕ) (ms : List ℕ) → fault_from none least ms ≡ pick (below ms) (pick (rises_from least ms) none (some NotRising)) (some AboveLimit)
 unfolding fault_from fault_after rises_from
 from_nothing least [] = rw below_none
 from_nothing least (m ∷ ms) = rw (below_next m ms) (go (leb member_limit m) (leb least m) (from_nothing (m + 1) ms))
   where
-    go : (p q : Bool) → fault_from Nothing (m + 1) ms ≡ pick (below ms) (pick (rises_from (m + 1) ms) Nothing NotRising) AboveLimit
-        → fault_from (pick p AboveLimit (pick q Nothing NotRising)) (m + 1) ms ≡ pick (not p && below ms) (pick (q && rises_from (m + 1) ms) Nothing NotRising) AboveLimit
+    go : (p q : Bool) → fault_from none (m + 1) ms ≡ pick (below ms) (pick (rises_from (m + 1) ms) none (some NotRising)) (some AboveLimit)
+        → fault_from (pick p (some AboveLimit) (pick q none (some NotRising))) (m + 1) ms ≡ pick (not p && below ms) (pick (q && rises_from (m + 1) ms) none (some NotRising)) (some AboveLimit)
     go true q h = from_above (m + 1) ms
     go false true h = h
     go false false h = from_falling (m + 1) ms
 
-pub fault_is : (ms : List ℕ) → fault_from Nothing 0 ms ≡ set_fault ms
+pub fault_is : (ms : List ℕ) → fault_from none 0 ms ≡ set_fault ms
 unfolding set_fault below
 fault_is ms = from_nothing 0 ms ∙ rw (rises ms)

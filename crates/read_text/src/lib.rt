@@ -4,44 +4,32 @@
 ghost use Rattle.std.proofs.Math.Bool.{So};
 ghost use Rattle.std.specs.Prelude.{◌≡◌};
 ghost use Rattle.format.specs.Text.{expect, read_argument};
-ghost use Rattle.read_numbers.specs.Numbers.{number_read};
-ghost use Rattle.read_text.specs.Reads.{next_read, no_zero};
+ghost use Rattle.read_text.specs.Reads.{no_zero};
 
 pub use bytes_at::byte_at;
-use read_numbers::{NumberRead, read_number};
+use read_numbers::read_number;
 
-// What looking for fixed bytes finds: the position past them, or that they are not there.
-#[derive(Drop)]
-pub enum Next {
-    At(usize),
-    Missing,
-}
-
-// Looks for the bytes of a word at a position; none of them is 0, which is what stands past the end.
-pub fn expect(s: &[u8], at: usize, word: &[u8]) -> Next
+// Looks for the bytes of a word at a position, and answers the position past them; none of them is 0, which is what stands past the end.
+pub fn expect(s: &[u8], at: usize, word: &[u8]) -> Option<usize>
     requires { So (no_zero word.now) }
-    ensures { next_read result ≡ expect word.now s.now at }
+    ensures { result ≡ expect word.now s.now at }
 {
     let mut next = at;
-    let mut i = 0;
-    while i < word.len() {
+    for &w in word {
         let b = byte_at(s, next);
-        let w = word[i];
         if b != w {
-            return Next::Missing;
+            return None;
         }
         next += 1;
-        i += 1;
     }
-    Next::At(next)
+    Some(next)
 }
 
 // Reads a space and a number.
-pub fn read_argument(s: &[u8], at: usize) -> NumberRead
-    ensures { number_read result ≡ read_argument s.now at }
+#[tactic(auto, unfolding(format::specs::Text::read_argument))]
+pub fn read_argument(s: &[u8], at: usize) -> Option<(u16, usize)>
+    ensures { result ≡ read_argument s.now at }
 {
-    let Next::At(p) = expect(s, at, b" ") else {
-        return NumberRead::Missing;
-    };
+    let p = expect(s, at, b" ")?;
     read_number(s, p)
 }

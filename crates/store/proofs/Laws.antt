@@ -3,10 +3,10 @@ use Prim.Native.Nat.{ℕ, zero, suc, ◌+◌, ◌*◌, ◌≤◌, ◌<◌, ◌-�
 use native.Mathlib.Omega.{arith}
 use native.Mathlib.Nat.{add-zero}
 use mathlib.Core.Bool.{false}
-use mathlib.Core.List.{[], ◌∷◌, ◌++◌}
-use mathlib.Core.Path.{◌≡◌, refl, ap, ◌∙◌}
+use mathlib.Core.List.{[], ◌∷◌, ◌++◌, append_assoc}
+use mathlib.Core.Path.{◌≡◌, refl, sym, ap, ◌∙◌}
 use lib.ListN.{length, get_or, take, drop, replicate, length-drop}
-use lib.Seq.{get_or-take, get_or-drop, drop-drop, take_all}
+use lib.Seq.{get_or-take, get_or-drop, drop-drop, take_all, sets, sets-eq}
 use lib.Dec.{eqb}
 use borrow.Author.Tests.{eq-eqb, ne_eqb}
 use Rattle.program.specs.declared.Row.{Row}
@@ -15,14 +15,14 @@ use Rattle.format.specs.Text.{Bytes, byte_at}
 use Rattle.format.specs.Forms.{form_of}
 use Rattle.calls.specs.Layout.{row_size, row_of, counting, decode_rows}
 use Rattle.calls.proofs.Codec.Sparse.{counting-length}
-use Rattle.store.specs.Rows.{store_row, store_program, cells_at, bytes_of}
+use Rattle.store.specs.Rows.{store_row, store_program, cells_at}
 
 -- ---- a row by its bytes
 
 byte : (s : Bytes) (p i : ℕ) → i < row_size → get_or (take row_size (drop p s)) i 0 ≡ get_or s (p + i) 0
 byte s p i h = get_or-take row_size (drop p s) i 0 h ∙ get_or-drop p s i 0
 
-pub row_cells : (s : Bytes) (r : ℕ) → store_row s r ≡ row_of (bytes_of (cells_at s r))
+pub row_cells : (s : Bytes) (r : ℕ) → store_row s r ≡ row_of (cells_at s r)
 unfolding store_row cells_at row_of form_of
 row_cells s r =
     let p = r * row_size in
@@ -112,3 +112,11 @@ pub decode_rows_lem : (s : Bytes) (k n : ℕ) → n ≤ k → ((r : ℕ) → r <
     → (n < k → byte_at s (n * row_size) ≡ 0) → decode_rows k s ≡ store_program n s
 unfolding store_program
 decode_rows_lem s k n h some end = decode_from s k n 0 h (λ r l m. some r (omega arith)) (rw add-zero end)
+
+-- ---- bytes written in the place of others
+
+-- from a to e, as many as there are
+pub placed : (a e : ℕ) (xs ys : Bytes) → e ≡ a + length ys → e ≤ length xs → take a xs ++ (ys ++ drop (e - a) (drop a xs)) ≡ sets xs a ys
+placed a e xs ys q h =
+    let rest : a + (e - a) ≡ a + length ys = omega arith in
+    rw (drop-drop (e - a) a xs, rest) (sym (append_assoc (take a xs) ys (drop (a + length ys) xs)) ∙ sym (sets-eq ys xs a (omega arith)))

@@ -1,4 +1,4 @@
-// The store of bytes that a file is loaded into: its layout, a new one, and the bytes of a row.
+// The store of bytes that a file is loaded into: its layout, and a new one.
 #![tactic(auto)]
 
 ghost use Rattle.std.specs.Prelude.{◌≡◌, ◌≤◌, ◌++◌, length, drop, replicate};
@@ -41,19 +41,6 @@ impl Store {
             bytes: [0; Self::SIZE],
         }
     }
-}
-
-// The bytes of a row.
-#[derive(Clone, Copy)]
-pub struct Cells {
-    pub kind: u8,
-    pub name: u8,
-    pub rest: u8,
-    pub a: u8,
-    pub b: u8,
-    pub c: u8,
-    pub d: u8,
-    pub e: u8,
 }
 
 // Sets the bytes of a store, at the head of a slice, to 0.

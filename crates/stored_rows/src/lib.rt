@@ -4,27 +4,28 @@
 ghost use Rattle.std.specs.Prelude.{◌≡◌};
 ghost use Rattle.format.specs.Forms.{form_with};
 ghost use Rattle.calls.specs.Layout.{row_of};
-ghost use Rattle.store.specs.Rows.{bytes_of, cells_at, store_row};
+ghost use Rattle.store.specs.Rows.{cells_at, store_row};
 
 use program::{Bind, Form, Row};
-use store::{Cells, Store};
+use read_text::byte_at;
+use store::Store;
 
 // The bytes of row r; past the store's end they are 0.
 #[tactic(auto, unfolding(store::specs::Rows::cells_at))]
-fn cells_at(store: &[u8], r: u8) -> Cells
+fn cells_at(store: &[u8], r: u8) -> [u8; Store::ROW_SIZE]
     ensures { result ≡ cells_at store.now r }
 {
     let p = r as usize * Store::ROW_SIZE;
-    Cells {
-        kind: read_text::byte_at(store, p),
-        name: read_text::byte_at(store, p + 1),
-        rest: read_text::byte_at(store, p + 2),
-        a: read_text::byte_at(store, p + 3),
-        b: read_text::byte_at(store, p + 4),
-        c: read_text::byte_at(store, p + 5),
-        d: read_text::byte_at(store, p + 6),
-        e: read_text::byte_at(store, p + 7),
-    }
+    [
+        byte_at(store, p),
+        byte_at(store, p + 1),
+        byte_at(store, p + 2),
+        byte_at(store, p + 3),
+        byte_at(store, p + 4),
+        byte_at(store, p + 5),
+        byte_at(store, p + 6),
+        byte_at(store, p + 7),
+    ]
 }
 
 // The form of a kind, 2 to 15, with its arguments. Any other kind reads as an apply.
@@ -70,18 +71,15 @@ pub fn form_of(kind: u8, a: u8, b: u8, c: u8, d: u8, e: u8) -> Form
 
 // The row of its bytes. Kind 1 is a result.
 #[tactic(auto, unfolding(calls::specs::Layout::row_of, format::specs::Forms::form_of))]
-fn row_of(x: Cells) -> Row
-    ensures { result ≡ row_of (bytes_of x) }
+fn row_of(cells: [u8; Store::ROW_SIZE]) -> Row
+    ensures { result ≡ row_of cells }
 {
-    if x.kind == 1 {
-        return Row::Result(x.name);
+    let [kind, name, rest, a, b, c, d, e] = cells;
+    if kind == 1 {
+        return Row::Result(name);
     }
-    let form = form_of(x.kind, x.a, x.b, x.c, x.d, x.e);
-    Row::Bind(Bind {
-        name: x.name,
-        form: form,
-        rest: x.rest,
-    })
+    let form = form_of(kind, a, b, c, d, e);
+    Row::Bind(Bind { name, form, rest })
 }
 
 // Row r. A kind above 15, and 0, which is no row, reads as an apply.

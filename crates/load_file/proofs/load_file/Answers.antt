@@ -13,16 +13,16 @@ load_lines-requires c =
 
 pub finish-requires : goal.finish-requires
 finish-requires c =
-    record { store_size_in_bounds = rw c.load_lines.ensures.past.length_stays (cleared_long c.args.store.now c.clear.ensures); rows_le_row_limit = rows_small _ _ (rw c.in-Accepted.is at c.load_lines.ensures) }
+    record { store_size_in_bounds = rw c.load_lines.ensures.past.length_stays (cleared_long c.args.store.now c.clear.ensures); rows_le_row_limit = rows_small _ _ (rw c.in-Ok.is at c.load_lines.ensures) }
 
-pub returns-in-Refused : goal.returns-in-Refused
-returns-in-Refused c =
+pub returns-in-Err : goal.returns-in-Err
+returns-in-Err c =
     lines_refused _ _ _ c.if-file-gt-FILE_BYTES.false _
-    (rw (c.in-Refused.is, c.clear.ensures) at
-    c.load_lines.ensures) c.refuse-in-Refused.ensures
+    (rw (c.in-Err.is, c.clear.ensures) at
+    c.load_lines.ensures) c.refuse-in-Err.ensures
 
-pub returns-in-Accepted : goal.returns-in-Accepted
-returns-in-Accepted c =
+pub returns-in-Ok : goal.returns-in-Ok
+returns-in-Ok c =
     lines_accepted _ _ _ c.if-file-gt-FILE_BYTES.false _
-    (rw (c.in-Accepted.is, c.clear.ensures) at
+    (rw (c.in-Ok.is, c.clear.ensures) at
     c.load_lines.ensures) c.finish.ensures

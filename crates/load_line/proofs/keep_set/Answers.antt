@@ -1,52 +1,40 @@
 -- What was read is the line of a set (`Keeps.set_line_lem`); its fault decides whether it is refused, or the set put where the store had none.
-use mathlib.Core.Path.{refl, sym, ap, ◌∙◌}
+use Rattle.std.proofs.Common.{refl, sym, ◌∙◌}
+use Rattle.std.proofs.lemmas.Result.{err_from_is_err_and}
 use Rattle.format.specs.Text.{ascii}
-use Rattle.read_text.specs.Reads.{next_read}
-use Rattle.progress.specs.Lines.{fault_read}
-use Rattle.load_line.proofs.Keeps.{unread, set_line_missing, set_line_cut, set_line_lem, set_refused, set_room, set_kept}
 use Rattle.progress.proofs.Faults.{set_fits}
+use Rattle.load_line.proofs.Keeps.{turned_back, set_line_missing, set_line_cut, set_line_lem, set_refused, set_room, set_put}
 use Rattle.load_line.proofs.keep_set.Goals as goal
 
-pub returns-in_default : goal.returns-in_default
-returns-in_default c = unread _ _ _ (set_line_missing c.args.table _ _ _ _ _ c.read_set.ensures c.in_default.is)
+pub returns-in_err-e : goal.returns-in_err-e
+returns-in_err-e c =
+    let (y, is, same) = err_from_is_err_and c.from_residual.result c.from_residual.ensures.1 in
+    rw is (turned_back _ _ _ same c.in_err-e.ensures.value c.in_err-e.ensures.ok_part
+    (set_line_missing c.args.table _ _ _ _ _ c.read_set.ensures c.in_err-e.ensures.ok_part))
 
-pub returns-in_default-expect : goal.returns-in_default-expect
+pub returns-in_err-next : goal.returns-in_err-next
 unfolding ascii
-returns-in_default-expect c =
-    unread _ _ _ (set_line_cut c.args.table _ _ _ _ _ c.read_set.ensures
-    c.in-Found.is (sym c.expect.ensures ∙ ap next_read c.in_default-expect.is))
+returns-in_err-next c =
+    let (y, is, same) = err_from_is_err_and c.from_residual-in_err-next.result c.from_residual-in_err-next.ensures.1 in
+    rw is (turned_back _ _ _ same c.in_err-next.ensures.value c.in_err-next.ensures.ok_part
+    (set_line_cut c.args.table _ _ _ _ _ c.read_set.ensures c.in_ok-e.ensures.ok_part (sym c.expect.ensures ∙ c.in_err-next.ensures.ok_part)))
 
-pub returns-in-Refused : goal.returns-in-Refused
+pub returns-in_err-set_fault : goal.returns-in_err-set_fault
 unfolding ascii
-returns-in-Refused c =
-    let (ms, q, f, l) = set_line_lem c.args.table _ _ c.args.n _ _
-    c.read_set.ensures c.in-Found.is
-    (sym c.expect.ensures ∙ ap next_read
-    c.in-At.is) refl in
-    set_refused c.args.table _ _ _ _ ms _ q _ f _
-    (sym c.set_fault.ensures ∙ ap fault_read c.in-Refused.is)
+returns-in_err-set_fault c =
+    let (y, is, same) = err_from_is_err_and c.from_residual-in_err-set_fault.result c.from_residual-in_err-set_fault.ensures.1 in
+    let (ms, q, f, l) = set_line_lem c.args.table _ _ c.args.n _ _ c.read_set.ensures c.in_ok-e.ensures.ok_part (sym c.expect.ensures ∙ c.in_ok-next.ensures.ok_part) refl in
+    rw (is, same) (set_refused c.args.table _ _ _ _ ms _ q _ f _ (sym c.in_err-set_fault.ensures))
 
 pub place_of-place-requires : goal.place_of-place-requires
-place_of-place-requires c =
-    (set_fits c.args.table _ _ _ (sym c.set_fault.ensures ∙ ap fault_read c.in_default-set_fault.is)).0
+place_of-place-requires c = (set_fits c.args.table _ _ _ (sym c.in_ok-set_fault.ensures)).0
 
-pub put_flags-requires : goal.put_flags-requires
-unfolding ascii
-put_flags-requires c =
-    let (ms, q, f, l) = set_line_lem c.args.table _ _ c.args.n _ _
-    c.read_set.ensures c.in-Found.is
-    (sym c.expect.ensures ∙ ap next_read c.in-At.is) refl in
-    rw c.place_of-place.ensures (set_room c.args.table _ _ _ _ _ ms c.requires.store_size_in_bounds
-    (sym c.set_fault.ensures ∙ ap fault_read c.in_default-set_fault.is) l)
+pub slice_bounds-copy_from_slice-end : goal.slice_bounds-copy_from_slice-end
+slice_bounds-copy_from_slice-end c = rw c.place_of-place.ensures (set_room c.args.table _ _ _ _ c.requires.store_size_in_bounds (sym c.in_ok-set_fault.ensures))
 
 pub returns : goal.returns
 unfolding ascii
 returns c =
-    let (ms, q, f, l) = set_line_lem c.args.table _ _
-    c.args.n _ _ c.read_set.ensures
-    c.in-Found.is (sym c.expect.ensures ∙ ap next_read
-    c.in-At.is) refl in
-    rw (c.put_flags.ensures, c.place_of-place.ensures, l, c.with_set.ensures)
-    (set_kept c.args.table _ _ _ _ ms _ q _ f
-    c.requires.small c.requires.store_size_in_bounds
-    (sym c.set_fault.ensures ∙ ap fault_read c.in_default-set_fault.is))
+    let (ms, q, f, l) = set_line_lem c.args.table _ _ c.args.n _ _ c.read_set.ensures c.in_ok-e.ensures.ok_part (sym c.expect.ensures ∙ c.in_ok-next.ensures.ok_part) refl in
+    rw (c.copy_from_slice.ensures.after, l, c.place_of-place.ensures, c.with_set.ensures)
+    (set_put c.args.table _ _ _ _ ms _ q _ f c.requires.small c.requires.store_size_in_bounds (sym c.in_ok-set_fault.ensures))

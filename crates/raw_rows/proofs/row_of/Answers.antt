@@ -1,20 +1,18 @@
--- No number is above the limit, so the low byte of each is the number itself (`Limits.low_result`, `Limits.low_bind`).
-use Rattle.raw_rows.proofs.Limits.{low_result, low_bind}
+-- No number is above the limit, so the low byte of each is the number itself.
+use Rattle.raw_rows.specs.Raw.{raw_row}
+use Rattle.raw_rows.proofs.Limits.{low_result, bind_below}
 use Rattle.raw_rows.proofs.row_of.Goals as goal
 
-pub returns-then-kind-eq1 : goal.returns-then-kind-eq1
-returns-then-kind-eq1 c = rw c.low-name.ensures (low_result _ c.if-kind-eq1.true c.requires)
+pub form_of-requires : goal.form_of-requires
+unfolding raw_row
+form_of-requires c = (bind_below _ _ _ (rw c.in-Bind.is at c.requires)).form_below
 
-pub returns : goal.returns
-returns c =
-    rw (
-      c.form_of-form.ensures,
-      c.low-name.ensures,
-      c.low.ensures,
-      c.low-2.ensures,
-      c.low-3.ensures,
-      c.low-4.ensures,
-      c.low-5.ensures,
-      c.low-rest.ensures,
-    )
-    (low_bind _ c.if-kind-eq1.false c.requires)
+pub returns-in-Result : goal.returns-in-Result
+unfolding raw_row
+returns-in-Result c = rw (c.in-Result.is, c.low.ensures) (low_result _ (rw c.in-Result.is at c.requires))
+
+pub returns-in-Bind : goal.returns-in-Bind
+unfolding raw_row
+returns-in-Bind c =
+    let below = bind_below _ _ _ (rw c.in-Bind.is at c.requires) in
+    rw (c.in-Bind.is, c.low-in-Bind.ensures, c.low-in-Bind-2.ensures, c.form_of.ensures, below.name_below, below.rest_below)

@@ -4,64 +4,23 @@ use Rattle.format.specs.Read.{row_words, read_row}
 use Rattle.format.specs.Text.{ascii, one_of}
 use Rattle.read_rows.proofs.read_row.Goals as goal
 
-pub returns-in_default-read_argument : goal.returns-in_default-read_argument
+pub returns-in-Some : goal.returns-in-Some
 unfolding read_row row_words one_of ascii ◌>>=◌
-returns-in_default-read_argument c =
-    rw (
-      ← c.expect.ensures,
-      c.in-At.is,
-      one_of,
-      ← c.read_argument.ensures,
-      c.in_default-read_argument.is,
-    )
+returns-in-Some c = rw (← c.in-Some.ensures, one_of, ← c.in_ok-name.ensures) c.read_result.ensures
 
-pub returns-in-At : goal.returns-in-At
+pub returns-in_err-name : goal.returns-in_err-name
 unfolding read_row row_words one_of ascii ◌>>=◌
-returns-in-At c =
-    rw (
-      ← c.expect.ensures,
-      c.in-At.is,
-      one_of,
-      ← c.read_argument.ensures,
-      c.in-Found.is,
-    ) c.read_result.ensures
+returns-in_err-name c = rw (c.from_residual.ensures, ← c.in-Some.ensures, one_of, ← c.in_err-name.ensures)
 
-pub returns-in_default-expect : goal.returns-in_default-expect
+pub returns-in_err-p : goal.returns-in_err-p
 unfolding read_row row_words one_of ascii ◌>>=◌
-returns-in_default-expect c =
-    rw (
-      ← c.expect.ensures,
-      c.in_default.is,
-      one_of,
-      ← c.expect-2.ensures,
-      c.in_default-expect.is,
-      one_of,
-    )
+returns-in_err-p c = rw (c.from_residual-in_err-p.ensures, ← c.in_default.ensures, one_of, ← c.in_err-p.ensures, one_of)
 
-pub returns-in_default-read_argument-2 : goal.returns-in_default-read_argument-2
+pub returns-in_err-name-2 : goal.returns-in_err-name-2
 unfolding read_row row_words one_of ascii ◌>>=◌
-returns-in_default-read_argument-2 c =
-    rw (
-      ← c.expect.ensures,
-      c.in_default.is,
-      one_of,
-      ← c.expect-2.ensures,
-      c.in-At-expect.is,
-      one_of,
-      ← c.read_argument-2.ensures,
-      c.in_default-read_argument-2.is,
-    )
+returns-in_err-name-2 c =
+    rw (c.from_residual-in_err-name-2.ensures, ← c.in_default.ensures, one_of, ← c.in_ok-p.ensures, one_of, ← c.in_err-name-2.ensures)
 
 pub returns : goal.returns
 unfolding read_row row_words one_of ascii ◌>>=◌
-returns c =
-    rw (
-      ← c.expect.ensures,
-      c.in_default.is,
-      one_of,
-      ← c.expect-2.ensures,
-      c.in-At-expect.is,
-      one_of,
-      ← c.read_argument-2.ensures,
-      c.in-Found-read_argument.is,
-    ) c.read_bind.ensures
+returns c = rw (← c.in_default.ensures, one_of, ← c.in_ok-p.ensures, one_of, ← c.in_ok-name-2.ensures) c.read_bind.ensures

@@ -4,6 +4,6 @@ use Rattle.format.specs.Read.{read_set}
 use Rattle.format.specs.Text.{ascii}
 use Rattle.read_sets.proofs.read_set.Goals as goal
 
-pub returns-in_default : goal.returns-in_default
+pub returns-in_err-p : goal.returns-in_err-p
 unfolding read_set ascii ◌>>=◌
-returns-in_default c = rw (← c.expect.ensures, c.in_default.is)
+returns-in_err-p c = rw (c.from_residual.ensures, ← c.in_err-p.ensures)

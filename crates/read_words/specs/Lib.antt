@@ -1,2 +1,0 @@
--- What the answers of this crate say, in the terms of the format's definitions.
-pub mod Reads
