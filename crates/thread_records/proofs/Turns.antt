@@ -1,12 +1,9 @@
 -- Both loops go down from the number of records in use and follow `copied` one record at a time: what is still to come leads to the whole result.
--- The number falls in each turn, so they end.
 use mathlib.Core.Path.{◌≡◌, refl}
-use Prim.Native.Nat.{ℕ, zero, suc, ◌<◌, ◌^◌, ◌*◌, ◌-◌, min}
+use Prim.Native.Nat.{ℕ, zero, suc, ◌<◌, ◌-◌, min}
 use native.Mathlib.Omega.{arith}
-use mathlib.Core.Bool.{Bool, true, false}
 use mathlib.Core.List.{List}
 use lib.ListN.{length, get_or, set}
-use lib.Dec.{T as Tt}
 use Rattle.machine.specs.declared.ThreadRecord.{ThreadRecord}
 use Rattle.machine.specs.Machine.{thread_limit}
 use Rattle.thread_records.specs.declared.Records.{Records}
@@ -43,15 +40,3 @@ pub put_last : (from into : List ThreadRecord) (n : ℕ) → (0 < n → ⊥) →
 unfolding copied
 put_last from into zero l = refl
 put_last from into (suc k) l = absurd (l (omega arith))
-
--- the place of a record fits, since all the records have room
-pub fits_below : (i n : ℕ) → i < n → n * 6 < 2 ^ 63 → i * 6 < 2 ^ 64
-fits_below i n l r = omega arith
-
-pub holds : (t : Bool) → Tt t → t ≡ true
-holds true _ = refl
-holds false a = absurd a
-
-pub fails : (t : Bool) → (Tt t → ⊥) → t ≡ false
-fails true f = absurd (f tt)
-fails false _ = refl

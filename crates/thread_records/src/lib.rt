@@ -1,4 +1,4 @@
-// Thread records in a lent list: those that may be in use taken out of it by value, and put back. Every other function has the records by value.
+// Thread records in a lent list: those that may be in use taken out of it by value, and put back. The calls themselves go on the lent list; that they may as well go on these is `public` of lent_runs.
 #![tactic(auto)]
 
 ghost use Rattle.std.specs.Prelude.{◌≡◌, ◌<◌, min, get_or, set};
@@ -43,7 +43,7 @@ pub fn no_records(lent: usize) -> Records
         frame: 0,
     };
     Records {
-        lent: lent,
+        lent,
         list: [none; Run::THREADS as usize],
     }
 }
@@ -52,23 +52,16 @@ pub fn no_records(lent: usize) -> Records
 pub fn in_use(lent: usize) -> usize
     ensures { result ≡ min lent thread_limit }
 {
-    if lent < Run::THREADS as usize {
-        return lent;
-    }
-    Run::THREADS as usize
+    lent.min(Run::THREADS as usize)
 }
 
-// The records of a lent list, which is left as it is.
-pub fn records_in(threads: &mut [ThreadRecord]) -> Records
-    ensures { (result ≡ records_in threads.old) × (threads.new ≡ threads.old) }
+// The records of a lent list.
+pub fn records_in(threads: &[ThreadRecord]) -> Records
+    ensures { result ≡ records_in threads.now }
 {
-    let lent = threads.len();
-    let mut records = no_records(lent);
-    let mut left = in_use(lent);
-    while 0 < left {
-        left = left - 1;
-        let t = threads[left];
-        records = with_record(records, left, t);
+    let mut records = no_records(threads.len());
+    for k in (0..in_use(threads.len())).rev() {
+        records.list[k] = threads[k];
     }
     records
 }
@@ -77,10 +70,7 @@ pub fn records_in(threads: &mut [ThreadRecord]) -> Records
 pub fn put_records(threads: &mut [ThreadRecord], records: Records)
     ensures { threads.new ≡ put_records threads.old records }
 {
-    let mut left = in_use(threads.len());
-    while 0 < left {
-        left = left - 1;
-        let t = record_at(records, left);
-        threads[left] = t;
+    for k in (0..in_use(threads.len())).rev() {
+        threads[k] = records.list[k];
     }
 }
