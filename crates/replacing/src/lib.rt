@@ -11,7 +11,13 @@ use format::{Reason, Refusal};
 use store::Store;
 
 // 20 to 22 of a store, 32 of a name, 33 of a set that is handed over. Where there is none of them, marks the set and answers how many rows the store has.
-pub fn replaceable(store: &[u8], name: usize, unit: bool, list: &[u8], set: &mut [u8]) -> Result<u8, Refusal>
+pub fn replaceable(
+    store: &[u8],
+    name: usize,
+    unit: bool,
+    list: &[u8],
+    set: &mut [u8],
+) -> Result<u8, Refusal>
     requires { set.old ≡ replicate member_limit 0 }
     ensures { ReplaceableIs store.now name unit list.now set.new result }
 {
