@@ -11,6 +11,7 @@ use row_bytes::rows_sound;
 use store::Store;
 
 // Whether some program, its structure set aside, has the bytes that stand where a store has so many rows.
+#[tactic(auto, using(crate::proofs::Parts::no_rows, crate::proofs::Parts::rows_unsound, crate::proofs::Parts::rest_decides))]
 pub fn rows_canonical(store: &[u8], rows: u8) -> bool
     requires store_len { length store.now ≡ store_size }
     requires rows_le_row_limit { rows ≤ row_limit }
@@ -19,9 +20,6 @@ pub fn rows_canonical(store: &[u8], rows: u8) -> bool
     if rows == 0 {
         return false;
     }
-    if rows_sound(store, rows) {
-        let rest = rows as usize * Store::ROW_SIZE;
-        return all_below(&store[rest..Store::FLOWS], 1);
-    }
-    false
+    let rest = rows as usize * Store::ROW_SIZE;
+    rows_sound(store, rows) && all_below(&store[rest..Store::FLOWS], 1)
 }

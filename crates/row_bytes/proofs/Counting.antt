@@ -1,5 +1,5 @@
 -- Rows counted from a row on.
-use Prim.Native.Nat.{ℕ, suc, ◌+◌, ◌*◌, ◌-◌, ◌<◌}
+use Prim.Native.Nat.{ℕ, suc, ◌+◌, ◌*◌, ◌-◌, ◌≤◌, ◌<◌}
 use native.Mathlib.Omega.{arith}
 use mathlib.Core.Bool.{false}
 use mathlib.Core.Path.{◌≡◌, sym, ◌∙◌}
@@ -44,6 +44,6 @@ counted_goes s r l e h =
     let z : count_rows (row_limit - r) (drop (r * row_size) s) ≡ suc (count_rows (row_limit - (r + 1)) (drop ((r + 1) * row_size) s)) = rw q (count_goes s r (row_limit - (r + 1)) e) in
     omega (arith, h, z)
 
-pub counted_all : (s : Bytes) (r : ℕ) → r ≡ row_limit → CountedTo s r → r ≡ count_rows row_limit s
+pub counted_all : (s : Bytes) (r : ℕ) → row_limit ≤ r → r ≤ row_limit → CountedTo s r → row_limit ≡ count_rows row_limit s
 unfolding count_rows
-counted_all s r e h = sym (h ∙ rw e (add-zero row_limit))
+counted_all s r l m h = let e : r ≡ row_limit = omega arith in sym (h ∙ rw e (add-zero row_limit))

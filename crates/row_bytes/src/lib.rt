@@ -15,12 +15,8 @@ use store::Store;
 fn used_bytes(kind: u8) -> usize
     ensures { (result ≡ used_bytes kind) × (result ≤ row_size) }
 {
-    let k = kind as usize;
     let used = [0, 2, 3, 3, 5, 4, 5, 4, 4, 6, 4, 4, 4, 4, 8, 5];
-    if 16 <= k {
-        return 0;
-    }
-    used[k]
+    used.get(kind as usize).copied().unwrap_or(0)
 }
 
 // Whether some row with numbers below the limit has these bytes.
@@ -45,15 +41,13 @@ fn row_sound(row: &[u8]) -> bool
 pub fn count_rows(store: &[u8]) -> u8
     ensures { (result ≡ count_rows row_limit store.now) × (result ≤ row_limit) }
 {
-    let mut r = 0;
-    while r < Store::ROWS {
+    for r in 0..Store::ROWS {
         let at = r * Store::ROW_SIZE;
         if read_text::byte_at(store, at) == 0 {
             return r as u8;
         }
-        r += 1;
     }
-    r as u8
+    Store::ROWS as u8
 }
 
 // Whether each of the first rows has the bytes of a row.
@@ -63,15 +57,11 @@ pub fn rows_sound(store: &[u8], rows: u8) -> bool
     requires rows_le_row_limit { rows ≤ row_limit }
     ensures { result ≡ rows_sound rows store.now }
 {
-    let mut left = rows as usize;
-    while 0 < left {
-        left -= 1;
-        let at = left * Store::ROW_SIZE;
-        let end = at + Store::ROW_SIZE;
-        if row_sound(&store[at..end]) {
-            continue;
+    for r in (0..rows as usize).rev() {
+        let at = r * Store::ROW_SIZE;
+        if !row_sound(&store[at..at + Store::ROW_SIZE]) {
+            return false;
         }
-        return false;
     }
     true
 }

@@ -1,4 +1,4 @@
--- `rows_canonical` meets its contract: the tests are tried in their order, and the first that fails decides.
+-- The tests are tried in their order, and the first that fails decides.
 use mathlib.Core.Path.{sym, ◌∙◌}
 use Rattle.canonical.proofs.Parts.{rest_decides}
 use Rattle.canonical.proofs.rows_canonical.Goals as goal
