@@ -42,8 +42,7 @@ pub fn count_rows(store: &[u8]) -> u8
     ensures { (result ≡ count_rows row_limit store.now) × (result ≤ row_limit) }
 {
     for r in 0..Store::ROWS {
-        let at = r * Store::ROW_SIZE;
-        if read_text::byte_at(store, at) == 0 {
+        if read_text::byte_at(store, r * Store::ROW_SIZE) == 0 {
             return r as u8;
         }
     }

@@ -4,8 +4,12 @@ use native.Mathlib.Omega.{arith}
 use native.Mathlib.Nat.{sub-zero}
 use native.Mathlib.Decide.{dec_lt, dec_le}
 use Rattle.std.specs.Prelude.{None as none, Some as some}
+use mathlib.Core.Bool.{Bool, true, false}
+use mathlib.Core.Logic.{◌⊎◌, inl, inr}
 use mathlib.Core.Path.{◌≡◌, refl, sym, ap, ap₂, ◌∙◌}
-use lib.ListN.{length}
+use lib.ListN.{length, get_or}
+use lib.Dec.{eqb}
+use Rattle.program.specs.Test.{pick}
 use borrow.Author.Tests.{lt-ltb, le-ltb, le-leb, lt-leb}
 use Rattle.program.specs.declared.Form.{Form}
 use Rattle.program.specs.declared.Form.TheVariants.{Chan, Send, Recv, Pair, Left, Right, Fun, Spawn, Sync, First, Second, Case, Apply}
@@ -103,6 +107,64 @@ enough (suc (suc k)) (suc (suc k')) p from h h' r scope =
     ∙ step_agrees k k' p r (enough k k' p (r + 1) (omega arith) (omega arith)) _ _ (row_at p r) scope (enough (suc k) (suc k') p (r + 1) (omega arith) (omega arith))
     ∙ sym (row_within p from r scope (suc k') l m)
 
+-- ---- what is found is a row of the program, or none
+
+abbrev Found : Program → ℕ → Type 0
+Found p x = (x < length p) ⊎ (x ≡ row_limit)
+
+module _ (p : Program) where
+  least_found : (a b : ℕ) → Found p a → Found p b → Found p (min a b)
+  least_found a b (inl l) h = inl (omega arith)
+  least_found a b (inr e) (inl l) = inl (omega arith)
+  least_found a b (inr e) (inr q) = inr (omega arith)
+
+  use_found : (r n : ℕ) (scope : Scope) → r < length p → Found p (use_fault r n scope)
+  unfolding use_fault
+  use_found r n scope l = go (eqb (get_or scope n 0) 0)
+    where
+      go : (b : Bool) → Found p (pick b r row_limit)
+      go true = inl l
+      go false = inr refl
+
+  form_found : (k r : ℕ) → r < length p → ((t : ℕ) (scope : Scope) → Found p (row_fault k p (r + 1) t scope)) → (f : Form) (scope : Scope) → Found p (form_fault (suc k) p r f scope)
+  unfolding form_fault
+  form_found k r l rows Form.Unit scope = inr refl
+  form_found k r l rows Chan scope = inr refl
+  form_found k r l rows (Send c m) scope = least_found _ _ (use_found r c scope l) (use_found r m scope l)
+  form_found k r l rows (Recv c) scope = use_found r c scope l
+  form_found k r l rows (Pair a b) scope = least_found _ _ (use_found r a scope l) (use_found r b scope l)
+  form_found k r l rows (Left a) scope = use_found r a scope l
+  form_found k r l rows (Right a) scope = use_found r a scope l
+  form_found k r l rows (Fun f x t) scope = rows t _
+  form_found k r l rows (Spawn t) scope = rows t scope
+  form_found k r l rows (Sync e) scope = use_found r e scope l
+  form_found k r l rows (First a) scope = use_found r a scope l
+  form_found k r l rows (Second a) scope = use_found r a scope l
+  form_found k r l rows (Case s x t y w) scope = least_found _ _ (use_found r s scope l) (least_found _ _ (rows t _) (rows w _))
+  form_found k r l rows (Apply f a) scope = least_found _ _ (use_found r f scope l) (use_found r a scope l)
+
+  step_found : (k r : ℕ) → r < length p → ((f : Form) (scope : Scope) → Found p (form_fault k p r f scope)) → ((t : ℕ) (scope : Scope) → Found p (row_fault k p (r + 1) t scope))
+      → (row : Row) (scope : Scope) → Found p (row_step k k p r row scope)
+  step_found k r l forms rows (Row.Result n) scope = use_found r n scope l
+  step_found k r l forms rows (Row.Bind b) scope = least_found _ _ (forms b.form scope) (rows b.rest _)
+
+  within_found : (k from r : ℕ) (scope : Scope) → (r < length p → Found p (row_step k k p r (row_at p r) scope)) → Found p (row_fault (suc k) p from r scope)
+  within_found k from r scope h =
+      elim (dec_lt r from) [
+        | yes l ↦ inr (row_before p from r scope (suc k) l)
+        | no l ↦
+            elim (dec_le (length p) r) [
+              | yes m ↦ inr (row_past p from r scope (suc k) (omega arith) m)
+              | no m ↦ rw (row_within p from r scope k (omega arith) (omega arith)) (h (omega arith))
+            ]
+      ]
+
+  row_found : (k from r : ℕ) (scope : Scope) → Found p (row_fault k p from r scope)
+  unfolding row_fault form_fault
+  row_found zero from r scope = inr refl
+  row_found (suc zero) from r scope = within_found zero from r scope λ l. step_found zero r l (λ f s. inr refl) (λ t s. inr refl) (row_at p r) scope
+  row_found (suc (suc k)) from r scope = within_found (suc k) from r scope λ l. step_found (suc k) r l (form_found k r l (row_found k (r + 1))) (row_found (suc k) (r + 1)) (row_at p r) scope
+
 -- ---- with the fuel of the code's contracts
 
 pub form_fuel : (n r : ℕ) → r < n → 2 * (n - r) ≡ suc (2 * (n - (r + 1)) + 1)
@@ -140,3 +202,13 @@ module _ (n : ℕ) (s : Bytes) {r : ℕ} (e : r ≡ row_fault (2 * (n - 0) + 1) 
   pub line_none : n ≤ r → none ≡ scope_line (store_program n s)
   unfolding scope_line
   line_none l = rw (scope_all n s, ← e, program_length n s, le-ltb r n l)
+
+  pub no_fault : n ≤ r → scope_fault (store_program n s) ≡ row_limit
+  no_fault l = go (row_found (store_program n s) _ _ _ _)
+    where
+      size : length (store_program n s) ≡ n
+      size = program_length n s
+
+      go : Found (store_program n s) (row_fault (2 * (n - 0) + 1) (store_program n s) 0 0 no_names) → scope_fault (store_program n s) ≡ row_limit
+      go (inl m) = absurd (omega (arith, size, e, l))
+      go (inr q) = scope_all n s ∙ q

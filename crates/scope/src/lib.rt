@@ -1,8 +1,9 @@
 // Scope, down the tree of a program's rows in a store. A scope has a byte for each name: 1 where the name is in scope.
 #![tactic(auto)]
 
-ghost use Rattle.std.specs.Prelude.{◌≡◌, get_or, set, ◌+◌, ◌*◌, ◌-◌, ◌<◌, min};
-ghost use Rattle.format.specs.Scope.{use_fault, row_fault, form_fault};
+ghost use Rattle.std.specs.Prelude.{◌≡◌, get_or, set, ◌+◌, ◌*◌, ◌-◌, ◌<◌, min, None};
+ghost use Rattle.format.specs.Limits.{row_limit};
+ghost use Rattle.format.specs.Scope.{use_fault, row_fault, form_fault, scope_fault};
 ghost use Rattle.format.specs.Structure.{scope_line};
 ghost use Rattle.store.specs.Rows.{store_program};
 
@@ -121,9 +122,10 @@ fn scope_form(store: &[u8], rows: u8, r: u8, form: Form, scope: &mut [u8; Store:
 }
 
 // The smallest of the first rows of a store with a use out of scope.
-#[tactic(auto, using(crate::proofs::Fuel::line_is, crate::proofs::Fuel::line_none))]
+#[tactic(auto, using(crate::proofs::Fuel::line_is, crate::proofs::Fuel::line_none, crate::proofs::Fuel::no_fault))]
 pub fn scope_fault(store: &[u8], rows: u8) -> Option<u8>
-    ensures { result ≡ scope_line (store_program rows store.now) }
+    ensures row { result ≡ scope_line (store_program rows store.now) }
+    ensures none { result ≡ None → scope_fault (store_program rows store.now) ≡ row_limit }
 {
     let mut scope = [0; Store::NAMES];
     let r = scope_row(store, rows, 0, 0, &mut scope);
