@@ -29,8 +29,9 @@ use Rattle.read_sets.specs.Sets.{set_fault, marks, SetIs}
 use Rattle.read_sets.proofs.Marks.{marks_flags}
 use Rattle.read_sets.proofs.Members.{set_found, set_missing}
 use Rattle.progress.specs.declared.Progress.{Progress}
-use Rattle.progress.specs.declared.Table.{Table}
-use Rattle.progress.specs.declared.Table.TheVariants.{Flow, Comm}
+use Rattle.tables.specs.declared.Table.{Table}
+use Rattle.tables.specs.declared.Table.TheVariants.{Flow, Comm}
+use Rattle.tables.specs.Starts.{start}
 use Rattle.progress.specs.Progress.{Matches, Small}
 use Rattle.load_line.specs.Line.{Past, LineRead, LineKept, FaultIs, AnswerIs, LineIs, read_rest}
 use Rattle.progress.specs.Lines.{section_of, set_line, place_of, with_row, with_set, with_claim, row_line_fault, set_line_fault, claim_line_fault}
@@ -132,6 +133,11 @@ module _ (t : Table) (s : Bytes) (at n : ℕ) (flags left : Bytes) {r : Option (
   set_line_lem q k z =
       let x = set_found (read_set s at) flags _ left h q in
       (x.members, line_of t s at n _ _ x.members x.reads k, x.fault_is_set, x.marked ∙ ap (marks x.members) z ∙ marks_flags x.members)
+
+pub place_is : (t : Table) (n : ℕ) → start t + n * member_limit ≡ place_of t n
+unfolding start
+place_is Flow n = refl
+place_is Comm n = refl
 
 place_within : (t : Table) (n : ℕ) → n < row_limit → place_of t n + member_limit ≤ store_size
 place_within Flow n l = omega arith

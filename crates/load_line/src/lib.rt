@@ -12,13 +12,14 @@ ghost use Rattle.load_line.specs.Line.{LineIs, read_rest};
 
 use format::{Reason, Section};
 use program::Word;
-use progress::{Progress, Table};
+use progress::Progress;
 use raw_rows::{row_above, row_of};
 use read_rows::read_row;
 use read_sets::read_set;
 use read_text::{expect, read_argument};
 use read_words::{read_section, read_word};
 use store::Store;
+use tables::Table;
 
 // A line's answer: what has been read with it and the position of the next line, or why it is refused.
 pub type LineRead = Result<(Progress, usize), Reason>;
@@ -36,10 +37,7 @@ fn place_of(table: Table, key: usize) -> usize
     requires { key < row_limit }
     ensures { result ≡ place_of table key }
 {
-    match table {
-        Table::Flow => Store::FLOWS + key * Store::MEMBERS,
-        Table::Comm => Store::COMMS + key * Store::MEMBERS,
-    }
+    table.start() + key * Store::MEMBERS
 }
 
 // Reads the rest of a row's line behind its number, and keeps the row.

@@ -18,8 +18,8 @@ use Rattle.calls.specs.Layout.{row_size, row_bytes, flags_of, word_code, claim_a
 use Rattle.calls.proofs.Patches.{patch}
 use Rattle.calls.proofs.Codec.Adding.{add_row, add_flow, add_comm, add_claim}
 use Rattle.progress.specs.declared.Progress.{Progress}
-use Rattle.progress.specs.declared.Table.{Table}
-use Rattle.progress.specs.declared.Table.TheVariants.{Flow, Comm}
+use Rattle.tables.specs.declared.Table.{Table}
+use Rattle.tables.specs.declared.Table.TheVariants.{Flow, Comm}
 use Rattle.progress.specs.Progress.{Matches, Small}
 use Rattle.progress.specs.Lines.{set_line, place_of, least_of, with_row, with_set, with_claim}
 

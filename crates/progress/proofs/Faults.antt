@@ -24,8 +24,8 @@ use Rattle.read_sets.specs.declared.SetFault.{SetFault}
 use Rattle.read_sets.specs.declared.SetFault.TheVariants as set
 use Rattle.read_sets.specs.Sets.{is_above_limit, is_not_rising, set_fault}
 use Rattle.progress.specs.declared.Progress.{Progress}
-use Rattle.progress.specs.declared.Table.{Table}
-use Rattle.progress.specs.declared.Table.TheVariants.{Flow, Comm}
+use Rattle.tables.specs.declared.Table.{Table}
+use Rattle.tables.specs.declared.Table.TheVariants.{Flow, Comm}
 use Rattle.progress.specs.Progress.{Matches}
 use Rattle.progress.specs.Lines.{set_line, least_of, row_line_fault, set_line_fault, claim_line_fault}
 

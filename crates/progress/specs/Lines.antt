@@ -12,8 +12,8 @@ use Rattle.calls.specs.Layout.{flow_at, comm_at}
 use Rattle.read_sets.specs.declared.SetFault.{SetFault}
 use Rattle.read_sets.specs.Sets.{is_above_limit, is_not_rising}
 use Rattle.progress.specs.declared.Progress.{Progress}
-use Rattle.progress.specs.declared.Table.{Table}
-use Rattle.progress.specs.declared.Table.TheVariants.{Flow, Comm}
+use Rattle.tables.specs.declared.Table.{Table}
+use Rattle.tables.specs.declared.Table.TheVariants.{Flow, Comm}
 
 -- ---- the two tables of sets
 

@@ -8,6 +8,7 @@ ghost use Rattle.progress.specs.Lines.{behind, least_of, with_row, with_flow, wi
 use format::Reason;
 use read_sets::SetFault;
 use store::Store;
+use tables::Table;
 
 // What has been read: the counts of lines, and the least number that rises in each section.
 #[derive(Clone, Copy, PartialEq, Eq)]
@@ -19,13 +20,6 @@ pub struct Progress {
     pub flow_least: usize,
     pub comm_least: usize,
     pub claim_least: usize,
-}
-
-// The two tables of sets.
-#[derive(Clone, Copy, PartialEq, Eq)]
-pub enum Table {
-    Flow,
-    Comm,
 }
 
 impl Progress {
