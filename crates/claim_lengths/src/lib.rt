@@ -1,4 +1,5 @@
 // How long the lines of claims are; nothing is written.
+// Beside the writer, as in row_lengths, and not one function with it: a text that is written only for its length is made twice.
 #![tactic(auto)]
 
 ghost use Rattle.std.specs.Prelude.{[], ◌∷◌, map, ◌≡◌, ◌≤◌, length};

@@ -10,11 +10,11 @@ pub fn read_full<R: Read>(input: &mut R, bytes: &mut [u8]) -> usize
     ensures { result ≤ length bytes.new }
 {
     let mut done = 0;
+    // A read gives as many bytes as it likes, so no count is known before.
     while done < bytes.len() {
         match input.read(&mut bytes[done..]) {
-            Ok(0) => break,
+            Ok(0) | Err(_) => break,
             Ok(n) => done += n,
-            Err(_) => break,
         }
     }
     done

@@ -1,4 +1,5 @@
 // How long the lines of sets are, by how many members have more than one digit, and more than two; nothing is written. A set has a byte for each member, which is not 0 where the member is in the set: unit is member 0, and row r is r + 1.
+// Beside the writer, as in row_lengths, and not one function with it: a text that is written only for its length is made twice.
 #![tactic(auto)]
 
 ghost use Rattle.std.specs.Prelude.{[], ◌≡◌, ◌≤◌, length};
