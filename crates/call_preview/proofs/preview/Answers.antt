@@ -20,8 +20,8 @@ judge_rows-answer-requires c = record {
   rows_value = left_counted c.in_ok-count.ensures c.swap_flow.ensures.store_after;
 }
 
-pub swap_flow-2-requires : goal.swap_flow-2-requires
-swap_flow-2-requires c = back_ready c.in_ok-count.ensures c.swap_flow.ensures.store_after c.swap_flow.ensures.set_after
+pub swap_flow-requires-2 : goal.swap_flow-requires-2
+swap_flow-requires-2 c = back_ready c.in_ok-count.ensures c.swap_flow.ensures.store_after c.swap_flow.ensures.set_after
 
 pub returns-in_err-count : goal.returns-in_err-count
 returns-in_err-count c = let p = err_from_is_err_and c.from_residual.result c.from_residual.ensures.1 in rw (p.1, p.2) (refused_left _ _ _ _ c.in_err-count.ensures)
