@@ -67,6 +67,7 @@ pub fn find_frame(run: &[u8], k: u16) -> Option<Frame>
     requires { InLimits run.now }
     ensures { result ≡ numbered (memory_in run.now).frames k }
 {
+    // Two tests: joined by `||`, the search finds no proof.
     if k == 0 {
         return None;
     }
