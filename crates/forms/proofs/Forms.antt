@@ -164,12 +164,6 @@ module _ (ks : List ℕ) (f : Form) where
       (λ o. refl) (λ o. refl) (λ c m o. refl) (λ c o. absurd (miss ks 3 h o)) (λ a b o. refl) (λ a o. refl) (λ a o. refl) (λ f x t o. refl) (λ t o. refl)
       (λ e o. refl) (λ a o. refl) (λ a o. refl) (λ s l t r w o. refl) (λ f a o. refl) f
 
-  pub no_pair : T (not (has_key ks 4)) → OneOf ks (tag_of form.the_type f) → pair_of f ≡ none
-  no_pair h =
-      every_form (λ f. OneOf ks (tag_of form.the_type f) → pair_of f ≡ none)
-      (λ o. refl) (λ o. refl) (λ c m o. refl) (λ c o. refl) (λ a b o. absurd (miss ks 4 h o)) (λ a o. refl) (λ a o. refl) (λ f x t o. refl) (λ t o. refl)
-      (λ e o. refl) (λ a o. refl) (λ a o. refl) (λ s l t r w o. refl) (λ f a o. refl) f
-
   pub no_left : T (not (has_key ks 5)) → OneOf ks (tag_of form.the_type f) → left_of f ≡ none
   no_left h =
       every_form (λ f. OneOf ks (tag_of form.the_type f) → left_of f ≡ none)

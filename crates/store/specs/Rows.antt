@@ -1,9 +1,7 @@
 -- The rows of a store: a row by its number, and the program of the first n rows.
 use Rattle.std.specs.Prelude.{ℕ, ◌+◌, ◌*◌, [], ◌∷◌, get_or, take, drop}
-use Rattle.std.specs.Prelude.{Option, None as none, Some as some}
 use Rattle.program.specs.declared.Row.{Row}
 use Rattle.program.specs.Program.{Program}
-use Rattle.format.specs.Limits.{row_limit}
 use Rattle.format.specs.Text.{Bytes}
 use Rattle.calls.specs.Layout.{row_size, row_of, counting}
 
@@ -13,11 +11,6 @@ store_row s r = row_of (take row_size (drop (r * row_size) s))
 -- the first n rows
 unfoldable pub store_program : ℕ → Bytes → Program
 store_program n s = counting n 0 (store_row s)
-
--- a row, or the limit, which is no row's number
-unfoldable pub row_or : Option ℕ → ℕ
-row_or none = row_limit
-row_or (some r) = r
 
 -- the bytes of a row, one by one: past the end of the store they are 0
 unfoldable pub cells_at : Bytes → ℕ → Bytes

@@ -4,9 +4,6 @@
 ghost use Rattle.std.specs.Prelude.{◌≡◌, ◌≤◌, ◌++◌, length, drop, replicate};
 ghost use Rattle.calls.specs.Layout.{store_size};
 
-// No row: an answer where there is none.
-pub const NO_ROW: u8 = Store::ROWS as u8;
-
 #[derive(Drop)]
 pub struct Store {
     pub bytes: [u8; Store::SIZE],
