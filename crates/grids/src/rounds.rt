@@ -19,7 +19,7 @@ fn row_of(grid: &[u8], k: usize) -> [u8; Store::ROWS]
     row
 }
 
-// 1 if a byte is below another, which is joined into it, else 0.
+// 1 if a byte is below another, which is joined into it, else 0. A byte and no bool, so that the loop over a row takes many at a time.
 fn grows(own: u8, other: u8) -> u8
     ensures { result ≡ pick (ltb own other) 1 0 }
 {
