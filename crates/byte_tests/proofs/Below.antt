@@ -36,11 +36,6 @@ module _ (bs : Bytes) (limit i : ℕ) where
   unfolding every
   below_ends most l m = let q : i ≡ length bs = omega arith in rw (q, drop-length bs) (and-true (ltb most limit))
 
--- a limit that is not 0 is above 0
-pub above_none : (limit : ℕ) → (limit ≡ 0 → ⊥) → ltb 0 limit ≡ true
-above_none zero h = absurd (h refl)
-above_none (suc limit) h = lt-ltb 0 (suc limit) (omega arith)
-
 -- no byte is below 0
 pub below_none : (bs : Bytes) (limit : ℕ) → limit ≡ 0 → eqb (length bs) 0 ≡ Below limit bs
 unfolding every

@@ -5,8 +5,7 @@ use native.Mathlib.Numerals.{add-one}
 use mathlib.Core.Bool.{Bool, true, false, ◌&&◌, So, false≢true}
 use mathlib.Core.List.{[], ◌∷◌, map}
 use mathlib.Core.Path.{◌≡◌, refl, sym, ap, ◌∙◌}
-use lib.ListN.{length, drop, set, replicate, length-set, length-replicate, get_or-eq_default, drop_of_length-le}
-use native.Mathlib.Decide.{dec_lt}
+use lib.ListN.{length, drop, set, replicate, length-set, length-replicate, drop_of_length-le}
 use lib.Seq.{drop-cons}
 use lib.Dec.{ltb, leb}
 use borrow.Author.Tests.{leb-true, le-leb, lt-leb, lt-ltb, ltb-true}
@@ -85,14 +84,6 @@ module _ (allowed : Bytes) where
   ends : (least i : ℕ) (list : Bytes) → length list ≤ i → passes least (drop i list) ≡ true
   unfolding passes
   ends least i list l = rw (drop_of_length-le list l)
-
-  -- an allowed member has a byte
-  pub has_byte : (m : ℕ) {b : ℕ} → b ≡ byte_at allowed m → (b ≡ 0 → ⊥) → m < length allowed
-  has_byte m q k =
-      elim (dec_lt m (length allowed)) [
-        | yes l ↦ l
-        | no l ↦ absurd (k (q ∙ get_or-eq_default allowed 0 {n = m} (omega arith)))
-      ]
 
 -- ---- the marks
 

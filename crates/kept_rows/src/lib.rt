@@ -8,7 +8,7 @@ ghost use Rattle.calls.specs.Layout.{row_size, row_bytes};
 use program::{Form, Row};
 use store::Store;
 
-// The bytes of a bind with form f.
+// The bytes of a bind with form f; a kind is a byte of the store, which C lends.
 #[tactic(auto, unfolding(calls::specs::Layout::row_bytes, calls::specs::Layout::padded, format::specs::Forms::form_code, format::specs::Print::form_numbers))]
 fn cells_of_form(f: Form, name: u8, rest: u8) -> [u8; Store::ROW_SIZE]
     ensures { result ≡ row_bytes (Row.Bind (record { name = name; form = f; rest = rest })) }

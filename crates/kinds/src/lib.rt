@@ -1,4 +1,4 @@
-// The kinds of the forms, 2 to 15, as places of a table.
+// The kinds of the forms, 2 to 15, as places of a table. They are numbers since they are bytes of the store, which C lends.
 #![tactic(auto)]
 
 ghost use Rattle.std.specs.Prelude.{◌≡◌};

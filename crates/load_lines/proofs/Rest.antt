@@ -7,13 +7,10 @@ use native.Mathlib.Omega.{arith}
 use native.Mathlib.Decide.{dec_lt}
 use lib.ListN.{length}
 use borrow.Author.Tests.{eq-eqb, ne_eqb, le-leb, lt-ltb, le-ltb}
-use mir.Val.{Fits}
-use mir.Syntax.{w64}
 use Rattle.program.specs.Test.{pick}
 use Rattle.program.specs.Each.{every}
 use Rattle.format.specs.declared.Reason.{Reason}
 use Rattle.format.specs.declared.Reason.TheVariants.{NotALine, OutOfCount}
-use Rattle.format.specs.Limits.{byte_limit}
 use Rattle.format.specs.Refusals.{refusal, Result, refused, accepted}
 use Rattle.format.specs.Text.{Bytes, expect}
 use Rattle.format.specs.Print.{header}
@@ -174,9 +171,6 @@ module _ (file : Bytes) (start : ℕ) (store₀ store : Bytes) (at line : ℕ) (
 
 pub long_stays : (m n : ℕ) → store_size ≤ m → n ≡ m → store_size ≤ n
 long_stays m n h e = omega arith
-
-pub line_fits : (line left n : ℕ) → line + left ≡ n + 2 → n ≤ byte_limit → Fits w64 (line + 1)
-line_fits line left n e h = omega arith
 
 -- ---- the first line
 

@@ -1,6 +1,6 @@
 -- A line told from the progress before it: why it is refused, and the progress with it.
 use Rattle.std.specs.Prelude.{ℕ, ◌+◌, Bool, not, ◌||◌, List, ltb, leb, eqb}
-use Rattle.std.specs.Prelude.{Option, None as none, Some as some, Result, Ok, Err}
+use Rattle.std.specs.Prelude.{Option, None as none, Some as some}
 use Rattle.program.specs.Test.{pick}
 use Rattle.format.specs.declared.Reason.{Reason}
 use Rattle.format.specs.declared.Reason.TheVariants as reason
@@ -92,10 +92,6 @@ with_claim least p = record {
 }
 
 -- ---- why a line is refused: 2 before 3 before 4 before 5
-
-abbrev pub fault_read : Result (Unit {0}) Reason → Option Reason
-fault_read (Ok u) = none
-fault_read (Err reason) = some reason
 
 -- a row, where `above` says whether one of its own numbers is above the limit
 unfoldable pub row_line_fault : Progress → ℕ → Bool → Option Reason

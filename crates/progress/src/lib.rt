@@ -2,8 +2,9 @@
 #![tactic(auto)]
 
 ghost use Rattle.std.specs.Prelude.{◌≡◌};
+ghost use Rattle.std.specs.Result.{result_err};
 ghost use Rattle.progress.specs.Progress.{Small};
-ghost use Rattle.progress.specs.Lines.{behind, least_of, with_row, with_flow, with_comm, with_set, with_claim, fault_read, row_line_fault, set_line_fault, claim_line_fault};
+ghost use Rattle.progress.specs.Lines.{behind, least_of, with_row, with_flow, with_comm, with_set, with_claim, row_line_fault, set_line_fault, claim_line_fault};
 
 use format::Reason;
 use read_sets::SetFault;
@@ -53,6 +54,8 @@ impl Progress {
         self
     }
 
+    // The two tables have counts of their own, so one function for both would be no plainer than these.
+
     // With a flow line more, behind which the least name that rises is another.
     pub fn with_flow(mut self, least: usize) -> Progress
         requires { Small self }
@@ -99,7 +102,7 @@ impl Progress {
 #[tactic(auto, unfolding(crate::specs::Lines::row_line_fault))]
 pub fn row_fault(p: Progress, n: usize, above: bool) -> Result<(), Reason>
     requires { Small p }
-    ensures { fault_read result ≡ row_line_fault p n above }
+    ensures { result_err result ≡ row_line_fault p n above }
 {
     let later = p.flows + p.comms + p.claims;
     if 0 < later {
@@ -121,7 +124,7 @@ pub fn row_fault(p: Progress, n: usize, above: bool) -> Result<(), Reason>
 #[tactic(auto, unfolding(crate::specs::Lines::set_line_fault))]
 pub fn set_fault(p: Progress, table: Table, n: usize, fault: Option<SetFault>) -> Result<(), Reason>
     requires { Small p }
-    ensures { fault_read result ≡ set_line_fault table p n fault }
+    ensures { result_err result ≡ set_line_fault table p n fault }
 {
     if 0 < p.behind(table) {
         return Err(Reason::NotALine);
@@ -147,7 +150,7 @@ pub fn set_fault(p: Progress, table: Table, n: usize, fault: Option<SetFault>) -
 // The fault of the line of the claim on row n.
 #[tactic(auto, unfolding(crate::specs::Lines::claim_line_fault))]
 pub fn claim_fault(p: Progress, n: usize) -> Result<(), Reason>
-    ensures { fault_read result ≡ claim_line_fault p n }
+    ensures { result_err result ≡ claim_line_fault p n }
 {
     if Store::ROWS <= n {
         return Err(Reason::AboveLimit);

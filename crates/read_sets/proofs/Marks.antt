@@ -1,10 +1,10 @@
--- Marking members: the length stays, members are marked one list after the other, and marks in zeros are the flags of the store.
+-- Marking members: marks in zeros are the flags of the store.
 use Prim.Native.Nat.{ℕ, zero, suc, ◌+◌}
-use mathlib.Core.List.{List, [], ◌∷◌, ◌++◌}
+use mathlib.Core.List.{List, [], ◌∷◌}
 use mathlib.Core.Path.{◌≡◌, refl, ap, ◌∙◌}
 use native.Mathlib.Omega.{arith}
 use native.Mathlib.Nat.{zero-add}
-use lib.ListN.{length, set, replicate, length-set}
+use lib.ListN.{set, replicate}
 use lib.Dec.{eqb}
 use borrow.Author.Tests.{eq-eqb, ne_eqb}
 use Rattle.program.specs.Test.{pick}
@@ -14,16 +14,6 @@ use Rattle.format.specs.Text.{Bytes}
 use Rattle.calls.specs.Layout.{member_limit, counting, flags_of}
 use Rattle.calls.proofs.Codec.Sparse.{counting_same}
 use Rattle.read_sets.specs.Sets.{marks}
-
-pub marks-length : (ms : List ℕ) (flags : Bytes) → length (marks ms flags) ≡ length flags
-unfolding marks
-marks-length [] flags = refl
-marks-length (m ∷ ms) flags = marks-length ms (set flags m 1) ∙ simp length-set
-
-pub marks-append : (ms ns : List ℕ) (flags : Bytes) → marks (ms ++ ns) flags ≡ marks ns (marks ms flags)
-unfolding marks
-marks-append [] ns flags = refl
-marks-append (m ∷ ms) ns flags = marks-append ms ns (set flags m 1)
 
 -- ---- marks in a row of bytes that a function gives
 

@@ -28,7 +28,7 @@ fn cells_at(store: &[u8], r: u8) -> [u8; Store::ROW_SIZE]
     ]
 }
 
-// The form of a kind, 2 to 15, with its arguments. Any other kind reads as an apply.
+// The form of a kind, 2 to 15, with its arguments. Any other kind reads as an apply: a kind is a byte of the store, which C lends.
 pub fn form_of(kind: u8, a: u8, b: u8, c: u8, d: u8, e: u8) -> Form
     ensures { result ≡ form_with kind a b c d e }
 {
