@@ -7,14 +7,11 @@ ghost use Rattle.program.specs.Program.{rows_of, binders_of, pointers, binders};
 use program::{Form, Row};
 use std::marker::Model;
 
-// How many numbers there are at most.
-const MOST: usize = 3;
-
 // Up to three numbers.
 #[derive(Drop)]
 pub struct Few {
-    numbers: [u8; MOST],
-    len: usize,
+    numbers: [u8; 3],
+    len: u8,
 }
 
 impl Model for Few {
@@ -26,43 +23,58 @@ impl Model for Few {
 }
 
 impl Few {
-    // No number.
-    fn new() -> Self
+    fn none() -> Self
         ensures { result ≡ [] }
     {
         Few {
-            numbers: [0; MOST],
+            numbers: [0; 3],
             len: 0,
         }
     }
 
-    // The same numbers and one more.
-    fn and(mut self, n: u8) -> Self
-        requires { length self < 3 }
-        ensures { result ≡ self ++ (n ∷ []) }
+    fn one(a: u8) -> Self
+        ensures { result ≡ a ∷ [] }
     {
-        self.numbers[self.len] = n;
-        self.len += 1;
-        self
+        Few {
+            numbers: [a, 0, 0],
+            len: 1,
+        }
+    }
+
+    fn two(a: u8, b: u8) -> Self
+        ensures { result ≡ a ∷ b ∷ [] }
+    {
+        Few {
+            numbers: [a, b, 0],
+            len: 2,
+        }
+    }
+
+    fn three(a: u8, b: u8, c: u8) -> Self
+        ensures { result ≡ a ∷ b ∷ c ∷ [] }
+    {
+        Few {
+            numbers: [a, b, c],
+            len: 3,
+        }
     }
 
     pub fn numbers(&self) -> &[u8]
         ensures { result.now ≡ self.now }
     {
-        &self.numbers[..self.len]
+        &self.numbers[..self.len as usize]
     }
 }
 
-// The rows that a form points at.
-fn rows_of(form: Form) -> Few
-    ensures rows { result ≡ rows_of form }
-    ensures few { length result ≤ 2 }
+// The rows that a form points at, then the rest.
+fn rows_of(form: Form, rest: u8) -> Few
+    ensures { result ≡ rows_of form ++ (rest ∷ []) }
 {
     match form {
-        Form::Fun { body, .. } => Few::new().and(body),
-        Form::Spawn { child } => Few::new().and(child),
-        Form::Case { left, right, .. } => Few::new().and(left).and(right),
-        _ => Few::new(),
+        Form::Fun { body, .. } => Few::two(body, rest),
+        Form::Spawn { child } => Few::two(child, rest),
+        Form::Case { left, right, .. } => Few::three(left, right, rest),
+        _ => Few::one(rest),
     }
 }
 
@@ -72,8 +84,8 @@ pub fn pointers_of(row: Row) -> Few
     ensures { result ≡ pointers row }
 {
     match row {
-        Row::Result(_) => Few::new(),
-        Row::Bind(b) => rows_of(b.form).and(b.rest),
+        Row::Result(_) => Few::none(),
+        Row::Bind(b) => rows_of(b.form, b.rest),
     }
 }
 
@@ -81,15 +93,14 @@ pub fn pointers_of(row: Row) -> Few
 fn names_of(name: u8, form: Form) -> Few
     ensures { result ≡ name ∷ binders_of form }
 {
-    let names = Few::new().and(name);
     match form {
-        Form::Fun { own, parameter, .. } => names.and(own).and(parameter),
+        Form::Fun { own, parameter, .. } => Few::three(name, own, parameter),
         Form::Case {
             left_name,
             right_name,
             ..
-        } => names.and(left_name).and(right_name),
-        _ => names,
+        } => Few::three(name, left_name, right_name),
+        _ => Few::one(name),
     }
 }
 
@@ -99,7 +110,7 @@ pub fn binders_of(row: Row) -> Few
     ensures { result ≡ binders row }
 {
     match row {
-        Row::Result(_) => Few::new(),
+        Row::Result(_) => Few::none(),
         Row::Bind(b) => names_of(b.name, b.form),
     }
 }
