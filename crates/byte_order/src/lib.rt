@@ -1,4 +1,4 @@
-// The larger and the smaller of two bytes. Loops that look at every byte are made of these, so that they take many at a time.
+// The larger and the smaller of two bytes, by std's `max` and `min`.
 #![tactic(auto)]
 
 ghost use Rattle.std.specs.Prelude.{◌≡◌, min, max};

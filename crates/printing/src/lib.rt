@@ -1,4 +1,5 @@
-// What a call answers, printed on standard output. Each function ends at the first write that fails, with its error.
+// What a call answers, printed on standard output, by the writer of files and not by Display, which divides. Each function ends at the
+// first write that fails, with its error.
 #![tactic(auto)]
 
 use calls::{JudgeAnswer, LoadAnswer, VerdictAnswer, WriteAnswer};

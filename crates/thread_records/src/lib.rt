@@ -1,4 +1,5 @@
-// Thread records in a lent list: those that may be in use taken out of it by value, and put back. The calls themselves go on the lent list; that they may as well go on these is `public` of lent_runs.
+// Thread records in a lent list: those that may be in use taken out of it by value, and put back. No call goes on these: the
+// run calls go on the lent list, and `public` of lent_runs says that they may as well go on these.
 #![tactic(auto)]
 
 ghost use Rattle.std.specs.Prelude.{◌≡◌, ◌<◌, min, get_or, set};
@@ -9,7 +10,7 @@ use machine::ThreadRecord;
 use run_memory::Run;
 
 // The records that may be in use, the first of those lent, and how many are lent.
-#[derive(Clone, Copy)]
+#[derive(Clone, Copy, PartialEq, Eq)]
 pub struct Records {
     pub lent: usize,
     pub list: [ThreadRecord; Run::THREADS as usize],
@@ -24,13 +25,12 @@ pub fn record_at(records: Records, k: usize) -> ThreadRecord
 }
 
 // Another record of this number.
-pub fn with_record(records: Records, k: usize, t: ThreadRecord) -> Records
+pub fn with_record(mut records: Records, k: usize, t: ThreadRecord) -> Records
     requires { k < thread_limit }
     ensures { result ≡ with_record records k t }
 {
-    let mut next = records;
-    next.list[k] = t;
-    next
+    records.list[k] = t;
+    records
 }
 
 // No record yet, of a list of this length.
@@ -55,7 +55,7 @@ pub fn in_use(lent: usize) -> usize
     lent.min(Run::THREADS as usize)
 }
 
-// The records of a lent list.
+// The records of a lent list, one by one, as the definition has them.
 pub fn records_in(threads: &[ThreadRecord]) -> Records
     ensures { result ≡ records_in threads.now }
 {
