@@ -7,19 +7,30 @@ ghost use Rattle.program.specs.Program.{rows_of, binders_of, pointers, binders};
 use program::{Form, Row};
 use std::marker::Model;
 
-// Up to three numbers.
-#[derive(Drop)]
+// Up to three numbers; behind these every byte is 0, so that the list tells the fields and a copy may be made.
+#[derive(Clone, Copy, PartialEq, Eq)]
 pub struct Few {
     numbers: [u8; 3],
     len: u8,
 }
 
 impl Model for Few {
+    ghost use Rattle.std.specs.Prelude.{◌≡◌, ◌≤◌, List, ℕ, length, take};
+    ghost use Rattle.row_numbers.specs.Padded.{padded};
+    ghost use Rattle.std.proofs.Common.{sym, subst, length-take-le};
+
     ghost Value = { List ℕ };
 
     ghost view = { λ few. take few.len few.numbers };
 
-    ghost invariant = { λ few. few.len ≤ 3 };
+    ghost invariant = { λ few. (few.len ≤ 3) × ((length few.numbers ≡ 3) × (padded (take few.len few.numbers) ≡ few.numbers)) };
+
+    ghost inverse = { λ ns. record { numbers = padded ns; len = length ns } };
+
+    ghost inverse_ok = { λ few h i. record {
+      numbers = h.1.1 i;
+      len = length-take-le few.len few.numbers (subst (λ n. few.len ≤ n) (sym h.1.0) h.0) i;
+    } };
 }
 
 impl Few {
