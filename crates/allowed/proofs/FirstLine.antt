@@ -33,7 +33,7 @@ module _ {A : Type 0} (ok : A → Bool) where
   checked_err line [] = refl
   checked_err line (x ∷ xs) = either (ok x) (λ e. rw (e, checked, first_failing) (checked_err (line + 1) xs)) (λ e. rw (e, checked, first_failing))
 
-  checked_failing : (line : ℕ) (xs : List A) {l : ℕ} → Err l ≡ checked ok line xs → first_failing ok line xs ≡ some l
+  pub checked_failing : (line : ℕ) (xs : List A) {l : ℕ} → Err l ≡ checked ok line xs → first_failing ok line xs ≡ some l
   checked_failing line xs h = sym (checked_err line xs) ∙ ap result_err (sym h)
 
   checked_end : (line : ℕ) (xs : List A) {n : ℕ} → checked ok line xs ≡ Ok n → n ≡ line + length xs
@@ -44,7 +44,7 @@ module _ {A : Type 0} (ok : A → Bool) where
       (λ e. let q = checked_end (line + 1) xs (rw (e, checked) at h) in omega arith)
       (λ e. let q : ◌≡◌ (Err line) (Ok _) = rw (e, checked) at h in let z : ◌≡◌ {A = ℕ} 0 1 = cc in absurd (omega arith))
 
-  checked_all : (line : ℕ) (xs : List A) {n : ℕ} → Ok n ≡ checked ok line xs → (first_failing ok line xs ≡ none) × (n ≡ line + length xs)
+  pub checked_all : (line : ℕ) (xs : List A) {n : ℕ} → Ok n ≡ checked ok line xs → (first_failing ok line xs ≡ none) × (n ≡ line + length xs)
   checked_all line xs h = (sym (checked_err line xs) ∙ ap result_err (sym h), checked_end line xs (sym h))
 
 -- ---- flags that tell what may be named

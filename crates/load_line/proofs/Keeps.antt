@@ -154,7 +154,7 @@ module _ (t : Table) (line : Option (Line × ℕ)) (p : Progress) (store : Bytes
   pub set_refused : (reason : Reason) → set_line_fault t p n f ≡ some reason → LineIs line p store (Err reason) store
   set_refused reason h = faulty line p store (set_line t n ms) next reason read (line_fault_lem (some reason) h)
 
-  set_kept : Small p → store_size ≤ length store → set_line_fault t p n f ≡ none
+  pub set_kept : Small p → store_size ≤ length store → set_line_fault t p n f ≡ none
       → LineIs line p store (Ok (with_set t (n + 1) p, next)) (sets store (place_of t n) (flags_of ms))
   set_kept small long h =
       let (low, rise) = set_fits t p n f h in

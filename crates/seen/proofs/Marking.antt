@@ -92,7 +92,7 @@ adds_one a n l e = record { marks = λ xs h. marks_one a xs n l h; again = λ xs
     is true = refl
     is false = refl
 
-adds_then : {a b c : Bytes} {ns ms : List ℕ} {i j : Bool} → Adds a ns b i → Adds b ms c j → Adds a (ns ++ ms) c (i || j)
+pub adds_then : {a b c : Bytes} {ns ms : List ℕ} {i j : Bool} → Adds a ns b i → Adds b ms c j → Adds a (ns ++ ms) c (i || j)
 adds_then {a} {b} {c} {ns} {ms} h k =
     record {
       marks = λ xs m. rw (← append_assoc) (k.marks (xs ++ ns) (h.marks xs m));
