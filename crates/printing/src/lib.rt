@@ -58,7 +58,10 @@ pub fn print_judged(rt: &impl Print, answer: JudgeAnswer) -> io::Result<()> {
 
 // Whether a verdict is given; its words are in the report.
 pub fn print_verdict(rt: &impl Print, answer: VerdictAnswer) -> io::Result<()> {
-    print_answer(rt, b"given", answer.status.map(|()| []))
+    match answer.status {
+        Ok(()) => rt.write_all(b"given\n"),
+        Err(refusal) => print_refusal(rt, refusal),
+    }
 }
 
 // The text itself where it was written, in lines of its own.
