@@ -1,5 +1,5 @@
 -- Records copied from one list to another.
-use Prim.Native.Nat.{ℕ, zero, suc, min, ◌+◌, ◌≤◌, ◌<◌}
+use Prim.Native.Nat.{ℕ, zero, suc, min, ◌≤◌, ◌<◌}
 use native.Mathlib.Omega.{arith}
 use mathlib.Core.List.{List, [], ◌∷◌, ◌++◌, append-nil}
 use mathlib.Core.Path.{◌≡◌, refl, sym, ◌∙◌, ap, ap₂}
@@ -32,7 +32,7 @@ copied_is (suc k) from into l m =
     ∙ ap (λ (l : Threads). take k from ++ l) (drop_set into k v (omega arith))
     ∙ sym (ap (λ (l : Threads). l ++ drop (suc k) into) (take_next from k (omega arith)) ∙ append_snoc (take k from) v (drop (suc k) into))
 
-take_all : (n : ℕ) (ts : Threads) → length ts ≤ n → take n ts ≡ ts
+pub take_all : (n : ℕ) (ts : Threads) → length ts ≤ n → take n ts ≡ ts
 take_all zero [] l = refl
 take_all (suc n) [] l = refl
 take_all zero (t ∷ ts) l = absurd (omega arith)

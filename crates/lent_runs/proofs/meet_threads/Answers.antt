@@ -1,0 +1,8 @@
+-- The call on the records that may be in use is the call on all.
+use Rattle.std.proofs.Common.{rules}
+use Rattle.machine.specs.Machine.{together}
+use Rattle.lent_runs.proofs.ByValue.{move_by_value}
+use Rattle.lent_runs.proofs.meet_threads.Goals as goal
+
+pub returns-clause-left : goal.returns-clause-left
+returns-clause-left c = move_by_value _ _ _ _ _ (together _ _) (search rules) c.in_use-used.ensures c.meet_threads-answer.ensures
