@@ -1,12 +1,12 @@
 -- Writes one after the other: a sequence of writes leaves what one write of the texts, one after the other, leaves.
-use Prim.Native.Nat.{ℕ, suc, ◌+◌, ◌-◌}
-use mathlib.Core.List.{List, [], ◌∷◌, ◌++◌, append_assoc}
+use Prim.Native.Nat.{ℕ, suc, ◌+◌, ◌<◌}
+use mathlib.Core.List.{List, [], ◌∷◌, ◌++◌}
 use mathlib.Core.Path.{◌≡◌, refl, sym, ap, ◌∙◌}
 use native.Mathlib.Nat.{add-suc, suc-add, add-zero}
-use borrow.Rule.Slice.PartMut.{put_mid}
+use native.Mathlib.Numerals.{add-one}
 use native.Mathlib.Omega.{arith}
-use lib.ListN.{length, set, length-append}
-use lib.Seq.{sets, sets-eq, length-sets, drop-drop}
+use lib.ListN.{length, set, take, get_or, length-append}
+use lib.Seq.{sets, length-sets, take-suc, length-take-le}
 use Rattle.write_bytes.specs.Write.{Room, Wrote}
 
 -- a text and then another one, written behind it
@@ -37,8 +37,10 @@ room_first a b r = record { room = omega (arith, r.room, length-append a b) }
 pub room_then : (b : List ℕ) {l m a : List ℕ} {i j : ℕ} → Wrote l i a j m → Room l i (a ++ b) → Room m j b
 room_then b {a = a} p r = record { room = omega (arith, r.room, p.next_is, length-append a b, wrote_length p) }
 
--- a word copied over the bytes from i on, as the code cuts them out
-pub copied : {l word part : List ℕ} {i : ℕ} → Room l i word → part ≡ word → Wrote l i word (i + length word) (put_mid i ((i + length word) - i) l part)
-copied {l} {word} {i = i} r e =
-    let size : (i + length word) - i ≡ length word = omega arith in
-    record { next_is = refl; left_is = rw (e, size, drop-drop (length word) i l, sets-eq word l i r.room, append_assoc) }
+-- a word of which the first i bytes are written: its next byte has room, and is written behind them
+module _ (word : List ℕ) (i : ℕ) (h : i < length word) where
+  pub room_next : {l m : List ℕ} {at j : ℕ} → Room l at word → Wrote l at (take i word) j m → Room m j (get_or word i 0 ∷ [])
+  room_next r p = record { room = omega (arith, r.room, p.next_is, length-take-le i word (omega arith), wrote_length p) }
+
+  pub then_next : {l m n : List ℕ} {at j k : ℕ} → Wrote l at (take i word) j m → Wrote m j (get_or word i 0 ∷ []) k n → Wrote l at (take (i + 1) word) k n
+  then_next p q = rw (add-one, take-suc word i 0 h) (then p q)

@@ -14,13 +14,15 @@ pub fn put_byte(out: &mut [u8], at: usize, b: u8) -> usize
     at + 1
 }
 
-// Writes the bytes of a word and returns the next position.
-#[tactic(auto, using(crate::proofs::Writing::copied))]
+// Writes the bytes of a word and returns the next position. Byte by byte: of `copy_from_slice` the compiler makes a call of memmove where it
+// knows no length, which the library would then need from outside.
 pub fn put_word(out: &mut [u8], at: usize, word: &[u8]) -> usize
     requires { Room out.old at word.now }
     ensures { Wrote out.old at word.now result out.new }
 {
-    let to = at + word.len();
-    out[at..to].copy_from_slice(word);
-    to
+    let mut next = at;
+    for &b in word {
+        next = put_byte(out, next, b);
+    }
+    next
 }
