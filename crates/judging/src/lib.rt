@@ -52,6 +52,17 @@ fn claims_answer(store: &[u8], rows: u8, held: Held) -> JudgeAnswer
     }
 }
 
+// How the claims fare, by a grid: a function of its own, since the grid's bytes are set to 0 where the function that has them begins.
+fn held_by_grid(store: &[u8], rows: u8) -> Held
+    requires store_len { length store.now ≡ store_size }
+    requires rows_le_row_limit { rows ≤ row_limit }
+    ensures { let bytes = store.now in (result ≡ claims_held (claim_in (store_program rows bytes) (store_flow bytes)) 0 (store_claims bytes)) × (holding result ≤ row_limit) }
+{
+    let mut grid = [0u8; GRID];
+    reach::fill_reach(store, rows, &mut grid);
+    claims::judge_claims(store, rows, &grid)
+}
+
 // How the claims fare, with a grid only where there is a claim and a sync: without a sync no channel has a place, and every claim holds.
 fn claims_held(store: &[u8], rows: u8) -> Held
     requires store_len { length store.now ≡ store_size }
@@ -66,9 +77,7 @@ fn claims_held(store: &[u8], rows: u8) -> Held
     if syncs.rows().is_empty() {
         return Ok(many);
     }
-    let mut grid = [0u8; GRID];
-    reach::fill_reach(store, rows, &mut grid);
-    claims::judge_claims(store, rows, &grid)
+    held_by_grid(store, rows)
 }
 
 // Judges the store.

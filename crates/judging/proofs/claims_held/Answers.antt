@@ -1,11 +1,9 @@
--- `claims_held` meets its contract: no claim, or none that can fail, or what the grid tells.
+-- `claims_held` meets its contract: no claim, or none that can fail, or what a grid tells.
 use Rattle.judging.proofs.Documents.{claims_counted}
 use Rattle.claims.proofs.Claiming.{held_empty, held_all}
 use Rattle.claims.specs.Claims.{claim_in, holding}
 use Rattle.verdicts.proofs.Wording.{words_hold}
-use Rattle.grids.proofs.Keeping.{zeros_show}
-use mathlib.Core.Path.{refl, sym, ◌∙◌}
-use borrow.Author.Rules.{rules}
+use mathlib.Core.Path.{sym, ◌∙◌}
 use borrow.Author.Tests.{eqb-true}
 use Rattle.judging.proofs.claims_held.Goals as goal
 
@@ -19,6 +17,3 @@ returns-then-is_empty c =
     let (many, few) = claims_counted c.args.store.now c.requires.store_len c.count_claims-many.ensures in
     let none = eqb-true _ _ (sym (rw c.rows.ensures at c.is_empty.ensures) ∙ c.if-is_empty.true) in
     (held_all _ _ many (λ k. words_hold _ _ c.listed-syncs.ensures none _ _), few)
-
-pub fill_reach-requires : goal.fill_reach-requires
-fill_reach-requires c = record { rows_le_row_limit = (c.requires.rows_le_row_limit, search rules); shows = zeros_show _ refl }
