@@ -1,6 +1,8 @@
 // Reads a task file from standard input and prints its report: the count of its claims and each channel's verdict, or its refusal.
 #![tactic(auto)]
 
+ghost use Rattle.std.specs.Prelude.{◌≤◌, length};
+
 use calls::WriteAnswer;
 use lent_sizes::REPORT_BYTES;
 use std::env::{Env, FillError};
@@ -21,21 +23,37 @@ fn has_argument(rt: &impl Env) -> bool {
     !matches!(rt.arg(1, &mut start), Err(FillError::NotPresent))
 }
 
-// Here and where the report is printed, the exit status stays 0 if a write fails.
+// Here and where the report is printed, the exit status stays 0 if a write fails. Not inlined, nor are the two functions below, so that the
+// buffers of writer and reader are off the stack when the store and the report come onto it.
+#[inline(never)]
 fn print_usage(rt: &impl Eprint) {
     let _ = rt.eprint(
         "usage: dispenser < FILE\nReads a task file from standard input and prints its verdicts, or [refused NUMBER LINE].\nThe exit status is always 0; channel-check explains refusals and has an exit status.\n",
     );
 }
 
+// The bytes of the input, as many as there is room for.
+#[inline(never)]
+fn read_input(rt: &impl Input, file: &mut [u8]) -> usize
+    ensures { result ≤ length file.new }
+{
+    reading::read_full(&mut rt.reader(), file)
+}
+
+// Prints the report of a file.
+#[inline(never)]
+fn report_file(rt: &impl Print, file: &[u8]) {
+    let mut store = [0u8; Store::SIZE];
+    let mut out = [0u8; REPORT_BYTES];
+    let answer = reporting::report(file, &mut store, &mut out);
+    print_written(rt, answer, &out);
+}
+
 // A longer file than may be loaded is read by one byte more, which is enough to refuse it.
 fn report_input(rt: &(impl Input + Print)) {
     let mut file = [0u8; Store::FILE_BYTES + 1];
-    let mut store = [0u8; Store::SIZE];
-    let mut out = [0u8; REPORT_BYTES];
-    let n = reading::read_full(&mut rt.reader(), &mut file);
-    let answer = reporting::report(&file[..n], &mut store, &mut out);
-    print_written(rt, answer, &out);
+    let n = read_input(rt, &mut file);
+    report_file(rt, &file[..n]);
 }
 
 // The bytes written. Store and output are long enough, so that there is always a report.
