@@ -129,8 +129,8 @@ fn threads_that_read_one_store_answer_as_one_alone() {
 /// zeroed, common, small, thread's own, unique, weak.
 const VARIABLES: &str = "DdBbCcGgSsuVv";
 
-/// What the library may take from where it is linked.
-const TAKEN: [&str; 4] = ["memcpy", "memmove", "memset", "memcmp"];
+/// What the library takes from where it is linked.
+const TAKEN: [&str; 2] = ["memcpy", "memset"];
 
 #[test]
 fn the_library_has_no_globals_and_takes_nothing_but_copying() {
