@@ -1,2 +1,2 @@
--- Laws about the run calls on records by value.
+-- Laws about the run calls on a lent list of records.
 pub mod RunMoves

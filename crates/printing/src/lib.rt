@@ -56,7 +56,7 @@ pub fn print_judged(rt: &impl Print, answer: JudgeAnswer) -> io::Result<()> {
     print_answer(rt, b"accepted", answer.map(|n| [n]))
 }
 
-// Whether a verdict is given; its words are in the report.
+// Whether a verdict is given; its words are in the report. In one write, for which `print_answer` has two.
 pub fn print_verdict(rt: &impl Print, answer: VerdictAnswer) -> io::Result<()> {
     match answer.status {
         Ok(()) => rt.write_all(b"given\n"),

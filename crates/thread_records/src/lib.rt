@@ -1,5 +1,5 @@
 // Thread records in a lent list: those that may be in use taken out of it by value, and put back. The calls of lent_runs go on
-// these, and C's on the lent list; `public` of lent_runs says that C's may as well go on these.
+// these; those of call_run, and C's, on the lent list, and `public` of lent_runs says that these may as well go on records.
 #![tactic(auto)]
 
 ghost use Rattle.std.specs.Prelude.{◌≡◌, ◌<◌, min, get_or, set};
