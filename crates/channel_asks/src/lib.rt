@@ -85,7 +85,9 @@ fn send_passes(store: &[u8], rows: u8, chans: &[u8], all: &[u8], given: bool, s:
     chans_hold(store, rows, chans, given, from, set)
 }
 
-// Unit and the rows that pass, as a set, by the list of the send rows, since every other row passes.
+// Unit and the rows that pass, as a set, by the list of the send rows, since every other row passes. Always inlined, so that its arrays
+// take the place of the caller's that are done with.
+#[inline(always)]
 pub fn passing_sends(
     store: &[u8],
     rows: u8,

@@ -28,7 +28,8 @@ fn put_row(out: &mut [u8], at: usize, store: &[u8], rows: u8, grid: &[u8], row: 
     put_channel(out, at, row as u16, told)
 }
 
-// Writes the lines of the chan rows, rows rising.
+// Writes the lines of the chan rows, rows rising. Not inlined: its lists are on the stack only while it runs.
+#[inline(never)]
 pub fn put_channels(out: &mut [u8], at: usize, store: &[u8], rows: u8, grid: &[u8]) -> usize
     requires store_size_in_bounds { (store_size ≤ length store.now) × (rows ≡ count_rows row_limit store.now) × (grid_size ≤ length grid.now) }
     requires shows { Shows (reach (store_program rows store.now) (store_flow store.now)) grid.now }

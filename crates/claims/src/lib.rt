@@ -16,7 +16,8 @@ use store::Store;
 // How the claims fare: how many there are, if all hold, or how many hold before the first that fails.
 pub type Held = Result<usize, usize>;
 
-// The claims in turn.
+// The claims in turn. Not inlined: its lists are on the stack only while it runs.
+#[inline(never)]
 pub fn judge_claims(store: &[u8], rows: u8, grid: &[u8]) -> Held
     requires rows_le_row_limit { (rows ≤ row_limit) × (grid_size ≤ length grid.now) }
     requires shows { Shows (reach (store_program rows store.now) (store_flow store.now)) grid.now }

@@ -23,8 +23,8 @@ fn has_argument(rt: &impl Env) -> bool {
     !matches!(rt.arg(1, &mut start), Err(FillError::NotPresent))
 }
 
-// Here and where the report is printed, the exit status stays 0 if a write fails. Not inlined, nor are the two functions below, so that the
-// buffers of writer and reader are off the stack when the store and the report come onto it.
+// Here and where the report is printed, the exit status stays 0 if a write fails. Not inlined, nor are `read_input` and `print_written`, so
+// that what they take of stack is free when the file is judged.
 #[inline(never)]
 fn print_usage(rt: &impl Eprint) {
     let _ = rt.eprint(
@@ -41,7 +41,6 @@ fn read_input(rt: &impl Input, file: &mut [u8]) -> usize
 }
 
 // Prints the report of a file.
-#[inline(never)]
 fn report_file(rt: &impl Print, file: &[u8]) {
     let mut store = [0u8; Store::SIZE];
     let mut out = [0u8; REPORT_BYTES];
@@ -57,6 +56,7 @@ fn report_input(rt: &(impl Input + Print)) {
 }
 
 // The bytes written. Store and output are long enough, so that there is always a report.
+#[inline(never)]
 fn print_written(rt: &impl Print, answer: WriteAnswer, out: &[u8]) {
     if let Ok(length) = answer {
         if let Some(report) = out.get(..length) {

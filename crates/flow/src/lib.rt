@@ -35,7 +35,8 @@ fn keeps_row(store: &[u8], rows: u8, r: u8, names: &[u8], with: &[u8], without: 
 }
 
 // The smallest row whose flow rule fails. What a sync asks of a send row depends on the sync only by unit in its set, so the
-// send rows that pass are found once for each of the two cases.
+// send rows that pass are found once for each of the two cases. Not inlined: its lists are on the stack only while it runs.
+#[inline(never)]
 pub fn failing_row(store: &[u8], rows: u8) -> Option<u8>
     requires store_size_in_bounds { store_size ≤ length store.now }
     requires rows_le_row_limit { rows ≤ row_limit }

@@ -17,7 +17,8 @@ use grids::close;
 const PASSES: u8 = 9;
 
 // Fills a grid of zeros: the byte of r and s is 1 if row s is reached from row r by one or more row steps, else 0, also where one of the
-// two is no row of the program. The bytes past the grid are kept.
+// two is no row of the program. The bytes past the grid are kept. Not inlined: its lists are on the stack only while it runs.
+#[inline(never)]
 pub fn fill_reach(store: &[u8], rows: u8, grid: &mut [u8])
     requires rows_le_row_limit { (rows ≤ row_limit) × (grid_size ≤ length grid.old) }
     requires shows { Shows (λ r s. false) grid.old }
